@@ -1,0 +1,4 @@
+pub mod History
+pub mod Print
+pub mod Task
+pub mod Trace

@@ -1,0 +1,101 @@
+-- What one step makes of the command that is kept.
+use Rattle.std.specs.Prelude.{◌≡◌, ◌⊎◌, ℕ, ◌+◌, ◌-◌, ◌*◌, ◌/◌, ◌<◌, ◌≤◌, ⊤, List, min, slice_range}
+use Rattle.hpb_outside.specs.Faults.{Rose, raised}
+use Rattle.flash_pages.specs.declared.chip.TheConstants.{BLOCK_BYTES}
+use Rattle.flash_pages.specs.Place.{Place}
+use Rattle.flash_pages.specs.Chip.{erased_count}
+use Rattle.flash_pages.specs.Unit.{block_of}
+use Rattle.flash_store.specs.Store.{StoreState, ProgramsBlock}
+use Rattle.hpb_cdb.specs.declared.cdb.Cdb.{Cdb}
+use Rattle.hpb_cdb.specs.declared.cdb.Cdb.TheVariants.{Read, Write}
+use Rattle.upiu_wire.specs.declared.kind.Kind.TheVariants.{DataIn, ReadyToTransfer}
+use Rattle.upiu_wire.specs.Upiu.{upiu_out}
+use Rattle.upiu_wire.specs.Written.{data_upiu, transfer_upiu}
+use Rattle.hpb_device.specs.declared.task.Task.{Task}
+use Rattle.hpb_device.specs.declared.task.TheConstants.{BURST_BYTES}
+use Rattle.hpb_device.specs.declared.reply.Cause.{Cause}
+use Rattle.hpb_device.specs.declared.reply.Cause.TheVariants.{ReadFailed, WriteFailed, NoRoom}
+use Rattle.hpb_device.specs.declared.reply.Reply.{Reply}
+use Rattle.hpb_device.specs.declared.reply.Reply.TheVariants.{Good, Check}
+use Rattle.hpb_device.specs.declared.advance.Progress.{Progress}
+use Rattle.hpb_device.specs.declared.advance.Progress.TheVariants.{Shown, Asked, Programmed, Ended, Failed}
+use Rattle.hpb_device.specs.Task.{bytes_given, bytes_taken}
+
+-- the first block that a command names
+abbrev pub first_block : Cdb → ℕ
+first_block (Read lba n) = lba
+first_block (Write lba n) = lba
+first_block _ = 0
+
+-- where block k of a command stands
+abbrev pub nth_place : Task → ℕ → Place
+nth_place task k = record { lun = task.lun; lba = first_block task.command + k }
+
+-- CHECK CONDITION, with what wasn't moved as residual
+abbrev pub check : Task → Cause → Reply
+check task cause = Check task.lun task.tag (task.expected - task.sent - task.come) cause
+
+-- why a command ends where a call of the chip failed
+abbrev pub failure_of : Cdb → Cause
+failure_of (Read lba n) = ReadFailed
+failure_of _ = WriteFailed
+
+-- the next block of a read was sent
+pub record Shows (old : StoreState) (task rest : Task) (out : List ℕ) : Type 0 where
+  pub more : task.sent < bytes_given task.command
+  pub sent : out ≡ upiu_out (data_upiu DataIn task.lun task.tag task.sent (block_of old.pages (nth_place task (task.sent / BLOCK_BYTES))))
+  pub task_is : rest ≡ record task { sent = task.sent + BLOCK_BYTES }
+
+-- the next data of a write were asked for
+pub record Asks (task rest : Task) (count : ℕ) (out : List ℕ) : Type 0 where
+  pub all_come : task.come ≡ task.asked
+  pub more : task.asked < bytes_taken task.command
+  pub counted : count ≡ min (bytes_taken task.command - task.asked) BURST_BYTES
+  pub sent : out ≡ upiu_out (transfer_upiu ReadyToTransfer task.lun task.tag task.asked count)
+  pub task_is : rest ≡ record task { asked = task.asked + count }
+
+-- the next block of a write, which has come, was programmed
+pub record Programs (old new : StoreState) (held : List ℕ) (task rest : Task) (start : ℕ) : Type 0 where
+  pub more : BLOCK_BYTES * task.programmed < task.come
+  pub program : ProgramsBlock old.pages (nth_place task task.programmed) (slice_range held start (start + BLOCK_BYTES)) new.pages
+  pub task_is : rest ≡ record task { programmed = task.programmed + 1 }
+
+-- all data of a command were moved, and those that came were programmed
+pub record IsComplete (task : Task) : Type 0 where
+  pub sent : task.sent ≡ bytes_given task.command
+  pub come : task.come ≡ bytes_taken task.command
+  pub programmed : BLOCK_BYTES * task.programmed ≡ task.come
+
+-- a command is answered: it is complete, or no page of the chip is erased
+abbrev pub EndsWith : StoreState → Task → Reply → Type 0
+EndsWith old task reply =
+    (IsComplete task × (reply ≡ Good task.lun task.tag (task.expected - task.sent - task.come)))
+    ⊎ ((BLOCK_BYTES * task.programmed < task.come) × (erased_count old.pages ≡ 0) × (reply ≡ check task NoRoom))
+
+-- What a step of a command came to. `start` is where the next block stands in the data that are held.
+abbrev pub Advances : (old new : StoreState) → (held : List ℕ) → Task → Progress → (out : List ℕ) → Type 0
+Advances old new held task (Shown rest) out = Shows old task rest out × (new.pages ≡ old.pages)
+Advances old new held task (Asked rest) out = (count : ℕ) × Asks task rest count out × (new ≡ old)
+Advances old new held task (Programmed rest) out = (start : ℕ) × Programs old new held task rest start
+Advances old new held task (Ended reply) out = EndsWith old task reply × (new.pages ≡ old.pages)
+Advances old new held task (Failed op reply) out =
+    Rose old.faults new.faults × (reply ≡ check task (failure_of task.command)) × (new.pages ≡ old.pages)
+
+-- the store serves the same blocks of the same chip
+pub record IsSameStore (old new : StoreState) : Type 0 where
+  pub geometry : new.geometry ≡ old.geometry
+  pub luns : new.luns ≡ old.luns
+  pub units : new.units ≡ old.units
+
+-- at most one call of the chip was made, and its count of faults hasn't fallen
+pub record MakesACallAtMost (old new : StoreState) : Type 0 where
+  pub calls : (new.calls ≡ old.calls) ⊎ (new.calls ≡ raised old.calls)
+  pub later : old.faults ≤ new.faults
+
+-- the command that is kept after a step, where it is kept, is so
+abbrev pub AllTasks : (Task → Type 0) → Progress → Type 0
+AllTasks P (Shown rest) = P rest
+AllTasks P (Asked rest) = P rest
+AllTasks P (Programmed rest) = P rest
+AllTasks P (Ended reply) = ⊤
+AllTasks P (Failed op reply) = ⊤

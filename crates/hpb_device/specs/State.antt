@@ -1,0 +1,35 @@
+-- What a device is, to those who call it, and what it keeps true of its fields.
+use Rattle.std.specs.Prelude.{⊤, ◌≡◌, ℕ, ◌≤◌, List, Option, MatchOption, IfSome}
+use Rattle.hpb_outside.specs.declared.errors.NewFault.{NewFault}
+use Rattle.hpb_outside.specs.declared.errors.NewFault.TheVariants as fault
+use Rattle.flash_pages.specs.declared.chip.Geometry.{Geometry}
+use Rattle.flash_store.specs.Store.{StoreState, CanServe}
+use Rattle.region_state.specs.declared.shape.Shape.{Shape}
+use Rattle.region_state.specs.Shape.{IsWithinLimits}
+use Rattle.hpb_device.specs.declared.task.Task.{Task}
+use Rattle.hpb_device.specs.declared.task.TheConstants.{BURST_BYTES}
+use Rattle.hpb_device.specs.Task.{WaitsForData, IsTaskOk, HoldsData}
+
+-- its store, the shape of each logical unit, the command that is kept, and the data of it that came last
+pub record DeviceState : Type 0 where
+  pub store : StoreState
+  pub shape : Shape
+  pub head : Option Task
+  pub held : List ℕ
+
+pub record IsDevice (store : StoreState) (shape : Shape) (luns : ℕ) (head : Option Task) (held : List ℕ) (room : ℕ) : Type 0 where
+  pub limits : IsWithinLimits shape
+  pub luns_served : store.luns ≡ luns
+  pub units_served : store.units ≡ shape.units
+  pub head_ok : IfSome head (IsTaskOk luns shape.units)
+  pub data_held : IfSome head (HoldsData held)
+  pub burst : BURST_BYTES ≤ room
+
+-- nothing can go on without the host
+abbrev pub AtRest : DeviceState → Type 0
+AtRest device = MatchOption device.head ⊤ WaitsForData
+
+-- why no device is made: the shape is outside its limits or the chip can't hold the units, or there isn't enough memory
+abbrev pub IsNewFault : NewFault → Geometry → ℕ → Shape → Type 0
+IsNewFault fault.Geometry geometry luns shape = ¬ (IsWithinLimits shape × CanServe geometry luns shape.units)
+IsNewFault fault.Memory geometry luns shape = IsWithinLimits shape × CanServe geometry luns shape.units

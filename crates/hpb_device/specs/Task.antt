@@ -1,0 +1,46 @@
+-- The command that a device keeps, and how far it has come.
+use Rattle.std.specs.Prelude.{◌≡◌, ℕ, ◌+◌, ◌*◌, ◌%◌, ◌^◌, ◌<◌, ◌≤◌, Bool, true, false, List, length}
+use Rattle.flash_pages.specs.declared.chip.TheConstants.{BLOCK_BYTES}
+use Rattle.hpb_cdb.specs.declared.cdb.Cdb.{Cdb}
+use Rattle.hpb_cdb.specs.declared.cdb.Cdb.TheVariants.{Read, Write}
+use Rattle.hpb_device.specs.declared.task.Task.{Task}
+use Rattle.hpb_device.specs.declared.task.TheConstants.{BURST_BYTES}
+
+-- the host is to send data before the command can go on
+abbrev pub WaitsForData : Task → Type 0
+WaitsForData task = task.come < task.asked
+
+-- the bytes that a command sends by DATA IN
+abbrev pub bytes_given : Cdb → ℕ
+bytes_given (Read lba n) = BLOCK_BYTES * n
+bytes_given _ = 0
+
+-- the bytes that a command takes by DATA OUT
+abbrev pub bytes_taken : Cdb → ℕ
+bytes_taken (Write lba n) = BLOCK_BYTES * n
+bytes_taken _ = 0
+
+-- a command that is served, about blocks of a unit of this many
+abbrev pub IsServed : ℕ → Cdb → Type 0
+IsServed units (Read lba n) = lba + n ≤ units
+IsServed units (Write lba n) = lba + n ≤ units
+IsServed units _ = ⊥
+
+-- a task of one of these logical units, which has moved no more than was asked for, in whole blocks but for what comes
+pub record IsTaskOk (luns units : ℕ) (task : Task) : Type 0 where
+  pub lun : task.lun < luns
+  pub served : IsServed units task.command
+  pub few_blocks : units < 2 ^ 32
+  pub fits : bytes_given task.command + bytes_taken task.command ≤ task.expected
+  pub asked : task.asked ≤ bytes_taken task.command
+  pub whole_asked : task.asked % BLOCK_BYTES ≡ 0
+  pub come : task.come ≤ task.asked
+  pub programmed : BLOCK_BYTES * task.programmed ≤ task.come
+  pub sent : task.sent ≤ bytes_given task.command
+  pub whole_sent : task.sent % BLOCK_BYTES ≡ 0
+
+-- of the data that have come, these are the last, and all before them were programmed
+pub record HoldsData (held : List ℕ) (task : Task) : Type 0 where
+  pub part : length held ≤ task.come
+  pub rest : task.come ≤ BLOCK_BYTES * task.programmed + length held
+  pub room : task.asked + length held ≤ task.come + BURST_BYTES

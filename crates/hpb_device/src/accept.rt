@@ -1,0 +1,189 @@
+// What comes of the bytes of the host, by the command that is kept.
+ghost use Rattle.std.specs.Prelude.{◌≡◌, ◌<◌, ◌^◌, length, None, IfOk, IfSome, OnOk};
+ghost use Rattle.std.specs.Bool.{OnTrue};
+ghost use Rattle.hpb_cdb.specs.Cdb.{IsCdb};
+ghost use Rattle.upiu_wire.specs.Upiu.{upiu_at};
+ghost use Rattle.hpb_device.specs.Accept.{IsVerdict, IsBegun, IsNextPiece};
+ghost use Rattle.hpb_device.specs.Task.{IsServed, IsTaskOk};
+
+use crate::reply::{Cause, Reply};
+use crate::task::Task;
+use hpb_cdb::{Cdb, CdbFault, Limits};
+use upiu_wire::{Kind, UpiuView};
+
+/// The reasons of a REJECT past those of the layout.
+const KIND_NOT_SERVED: u8 = 7;
+const TAG_IN_USE: u8 = 8;
+const DATA_NOT_WAITED_FOR: u8 = 9;
+
+/// The opcodes that are served (SBC).
+const READ_10: u8 = 0x28;
+const WRITE_10: u8 = 0x2A;
+
+/// What comes of the bytes of the host.
+pub enum Verdict<'a> {
+    /// The command is kept.
+    Keep(Task),
+    /// These are the next data of the head.
+    Data(&'a [u8]),
+    /// The bytes are answered at once, and nothing else changes.
+    Answer(Reply),
+    /// The data aren't as asked, which ends the head.
+    End(Reply),
+}
+
+/// Judges bytes of the host. The tests stand in a fixed order, which is this project's own.
+pub fn judge<'a>(limits: Limits, luns: u8, head: Option<Task>, bytes: &'a [u8]) -> Verdict<'a>
+    requires limits { 0 < limits.per_sub }
+    requires few_blocks { limits.units < 2 ^ 32 }
+    requires head { IfSome head (IsTaskOk luns limits.units) }
+    ensures { IsVerdict limits luns head (upiu_at bytes.now) result }
+{
+    match UpiuView::parse(bytes) {
+        Err(fault) => Verdict::Answer(reject_bytes(bytes, fault.number())),
+        Ok(view) => match view.kind() {
+            Kind::NopOut => Verdict::Answer(Reply::NopIn { tag: view.tag() }),
+            Kind::Command => match judge_command(limits, luns, head, &view) {
+                Ok(task) => Verdict::Keep(task),
+                Err(reply) => Verdict::Answer(reply),
+            },
+            Kind::DataOut => judge_data(limits, luns, head, &view),
+            _ => Verdict::Answer(Reply::Reject {
+                lun: view.lun(),
+                tag: view.tag(),
+                reason: KIND_NOT_SERVED,
+            }),
+        },
+    }
+}
+
+/// The REJECT of bytes that are no UPIU.
+fn reject_bytes(bytes: &[u8], reason: u8) -> Reply {
+    match bytes {
+        [_, _, lun, tag, ..] => Reply::Reject {
+            lun: *lun,
+            tag: *tag,
+            reason,
+        },
+        _ => Reply::Reject {
+            lun: 0,
+            tag: 0,
+            reason,
+        },
+    }
+}
+
+/// The task of a command, or what stands against it.
+fn judge_command(
+    limits: Limits,
+    luns: u8,
+    head: Option<Task>,
+    view: &UpiuView<'_>,
+) -> Result<Task, Reply>
+    requires limits { 0 < limits.per_sub }
+    requires few_blocks { limits.units < 2 ^ 32 }
+    ensures alone { OnOk result (head ≡ None) }
+    ensures begun { IfOk result (IsBegun limits luns (upiu_at view.now)) }
+{
+    let lun = view.lun();
+    let tag = view.tag();
+    let expected = view.first();
+    if let Some(task) = head {
+        if task.tag == tag {
+            return Err(Reply::Reject {
+                lun,
+                tag,
+                reason: TAG_IN_USE,
+            });
+        }
+    }
+    let check = |cause| Reply::Check {
+        lun,
+        tag,
+        residual: expected,
+        cause,
+    };
+    if lun >= luns {
+        return Err(check(Cause::NoSuchUnit));
+    }
+    if head.is_some() {
+        return Err(Reply::TaskSetFull {
+            lun,
+            tag,
+            residual: expected,
+        });
+    }
+    match command_of(limits, view.cdb()) {
+        Err(cause) => Err(check(cause)),
+        Ok(command) => {
+            if expected < hpb_cdb::needed(&command, limits) {
+                return Err(check(Cause::InvalidField));
+            }
+            Ok(Task::new(lun, tag, command, expected))
+        }
+    }
+}
+
+/// The command of a CDB, or why it is refused.
+fn command_of(limits: Limits, cdb: &[u8]) -> Result<Cdb, Cause>
+    requires bytes { length cdb.now ≡ 16 }
+    requires limits { 0 < limits.per_sub }
+    ensures command { IfOk result (IsCdb cdb.now limits) }
+    ensures served { IfOk result (IsServed limits.units) }
+{
+    if cdb[0] != READ_10 && cdb[0] != WRITE_10 {
+        return Err(Cause::UnknownOpcode);
+    }
+    match hpb_cdb::parse(cdb, limits) {
+        Ok(command) => Ok(command),
+        Err(CdbFault::Opcode) => Err(Cause::UnknownOpcode),
+        Err(CdbFault::Field) => Err(Cause::InvalidField),
+        Err(CdbFault::Range) => Err(Cause::OutOfRange),
+    }
+}
+
+/// Whether a DATA OUT goes on where the data that have come end, within what was asked for.
+fn is_next_piece(task: Task, view: &UpiuView<'_>) -> bool
+    requires { task.come < task.asked }
+    ensures { OnTrue result (IsNextPiece task (upiu_at view.now).segment) }
+{
+    let count = view.count();
+    view.first() == task.come
+        && count as usize == view.segment().len()
+        && count != 0
+        && count <= task.asked - task.come
+}
+
+/// What comes of a DATA OUT.
+fn judge_data<'a>(
+    limits: Limits,
+    luns: u8,
+    head: Option<Task>,
+    view: &UpiuView<'a>,
+) -> Verdict<'a>
+    requires { IfSome head (IsTaskOk luns limits.units) }
+    ensures { IsVerdict limits luns head (upiu_at view.now) result }
+{
+    let lun = view.lun();
+    let tag = view.tag();
+    let not_waited_for = Reply::Reject {
+        lun,
+        tag,
+        reason: DATA_NOT_WAITED_FOR,
+    };
+    let Some(task) = head else {
+        return Verdict::Answer(not_waited_for);
+    };
+    if !task.waits_for_data() || task.lun != lun || task.tag != tag {
+        return Verdict::Answer(not_waited_for);
+    }
+    if !is_next_piece(task, view) {
+        return Verdict::End(Reply::Check {
+            lun,
+            tag,
+            residual: task.expected - task.come,
+            cause: Cause::DataNotAsked,
+        });
+    }
+    Verdict::Data(view.segment())
+}

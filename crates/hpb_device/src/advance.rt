@@ -1,0 +1,170 @@
+// One step of the command that is kept.
+ghost use Rattle.std.specs.Prelude.{◌≡◌, ◌+◌, ◌-◌, ◌*◌, ◌<◌, ◌≤◌, ℕ, List, [], length, vec_capacity};
+ghost use Rattle.hpb_device.specs.Task.{IsTaskOk, HoldsData};
+ghost use Rattle.hpb_device.specs.Advance.{Advances, AllTasks, IsSameStore, MakesACallAtMost, check};
+
+use crate::reply::{Cause, Reply};
+use crate::task::{BURST_BYTES, Task};
+use flash_pages::{BLOCK_BYTES, ChipOp, Flash};
+use flash_store::{Store, StoreFault, Wrote};
+use hpb_cdb::Cdb;
+use hpb_outside::Failed;
+use upiu_wire::UpiuBuf;
+
+const BLOCK: u32 = BLOCK_BYTES as u32;
+
+/// What a step made of a command.
+#[derive(Clone, Copy, Debug, PartialEq, Eq)]
+pub enum Progress {
+    /// A block was sent by DATA IN.
+    Shown(Task),
+    /// Data were asked for by READY TO TRANSFER.
+    Asked(Task),
+    /// A block was programmed.
+    Programmed(Task),
+    /// The command is to be answered, and is no longer kept.
+    Ended(Reply),
+    /// A call of the chip failed, and the command is to be answered.
+    Failed(ChipOp, Reply),
+}
+
+/// The answer to a command that succeeded.
+fn good(task: Task) -> Reply
+    requires { task.sent + task.come ≤ task.expected }
+    ensures { result ≡ Reply.Good task.lun task.tag (task.expected - task.sent - task.come) }
+{
+    Reply::Good {
+        lun: task.lun,
+        tag: task.tag,
+        residual: task.expected - task.sent - task.come,
+    }
+}
+
+/// The answer to a command that failed.
+fn check(task: Task, cause: Cause) -> Reply
+    requires { task.sent + task.come ≤ task.expected }
+    ensures { result ≡ check task cause }
+{
+    Reply::Check {
+        lun: task.lun,
+        tag: task.tag,
+        residual: task.expected - task.sent - task.come,
+        cause,
+    }
+}
+
+/// One step of a command that doesn't wait for data.
+pub fn advance<F: Flash>(
+    store: &mut Store<F>,
+    held: &mut Vec<u8>,
+    task: Task,
+    out: &mut UpiuBuf,
+) -> Progress
+    requires task { IsTaskOk store.old.luns store.old.units task }
+    requires held { HoldsData held.old.items task }
+    requires goes { task.come ≡ task.asked }
+    ensures advances { Advances store.old store.new held.old.items task result out.new }
+    ensures ok { AllTasks (IsTaskOk store.old.luns store.old.units) result }
+    ensures held { AllTasks (HoldsData held.new.items) result }
+    ensures same { IsSameStore store.old store.new }
+    ensures calls { MakesACallAtMost store.old store.new }
+    ensures room { vec_capacity held.new ≡ vec_capacity held.old }
+{
+    match task.command {
+        Cdb::Read { lba, n } => show(store, task, lba, n, out),
+        Cdb::Write { lba, n } => {
+            if BLOCK * task.programmed < task.come {
+                program(store, held, task, lba, n)
+            } else {
+                ask(store, held, task, lba, n, out)
+            }
+        }
+        _ => Progress::Ended(good(task)),
+    }
+}
+
+/// Sends the next block of a READ(10), or answers it.
+fn show<F: Flash>(
+    store: &mut Store<F>,
+    task: Task,
+    lba: u32,
+    n: u16,
+    out: &mut UpiuBuf,
+) -> Progress
+    requires task { IsTaskOk store.old.luns store.old.units task }
+    requires command { task.command ≡ Cdb.Read lba n }
+    ensures advances { Advances store.old store.new [] task result out.new }
+    ensures ok { AllTasks (IsTaskOk store.old.luns store.old.units) result }
+    ensures same { IsSameStore store.old store.new }
+    ensures calls { MakesACallAtMost store.old store.new }
+{
+    if task.sent == BLOCK * u32::from(n) {
+        return Progress::Ended(good(task));
+    }
+    match store.read_mapped(task.lun, lba + task.sent / BLOCK) {
+        Ok(block) => {
+            out.put_data_in(task.lun, task.tag, task.sent, block);
+            Progress::Shown(Task {
+                sent: task.sent + BLOCK,
+                ..task
+            })
+        }
+        Err(Failed) => Progress::Failed(ChipOp::Read, check(task, Cause::ReadFailed)),
+    }
+}
+
+/// Programs the next block of a WRITE(10), whose data have come.
+fn program<F: Flash>(store: &mut Store<F>, held: &[u8], task: Task, lba: u32, n: u16) -> Progress
+    requires task { IsTaskOk store.old.luns store.old.units task }
+    requires held { HoldsData held.now task }
+    requires command { task.command ≡ Cdb.Write lba n }
+    requires come { task.come ≡ task.asked }
+    requires more { BLOCK_BYTES * task.programmed < task.come }
+    ensures advances { (out : List ℕ) → Advances store.old store.new held.now task result out }
+    ensures ok { AllTasks (IsTaskOk store.old.luns store.old.units) result }
+    ensures held { AllTasks (HoldsData held.now) result }
+    ensures same { IsSameStore store.old store.new }
+    ensures calls { MakesACallAtMost store.old store.new }
+{
+    let start = BLOCK_BYTES * task.programmed as usize + held.len() - task.come as usize;
+    let block = &held[start..start + BLOCK_BYTES];
+    match store.write_step(task.lun, lba + task.programmed, block) {
+        Ok(Wrote::Done) => Progress::Programmed(Task {
+            programmed: task.programmed + 1,
+            ..task
+        }),
+        Err(StoreFault::NoRoom) => Progress::Ended(check(task, Cause::NoRoom)),
+        Err(StoreFault::Failed(op)) => Progress::Failed(op, check(task, Cause::WriteFailed)),
+    }
+}
+
+/// Asks for the next data of a WRITE(10), or answers it.
+fn ask<F: Flash>(
+    store: &Store<F>,
+    held: &mut Vec<u8>,
+    task: Task,
+    lba: u32,
+    n: u16,
+    out: &mut UpiuBuf,
+) -> Progress
+    requires task { IsTaskOk store.now.luns store.now.units task }
+    requires command { task.command ≡ Cdb.Write lba n }
+    requires come { task.come ≡ task.asked }
+    requires programmed { BLOCK_BYTES * task.programmed ≡ task.come }
+    ensures advances { Advances store.now store.now held.old.items task result out.new }
+    ensures ok { AllTasks (IsTaskOk store.now.luns store.now.units) result }
+    ensures held { AllTasks (HoldsData held.new.items) result }
+    ensures room { vec_capacity held.new ≡ vec_capacity held.old }
+{
+    let left = BLOCK * u32::from(n) - task.asked;
+    if left == 0 {
+        return Progress::Ended(good(task));
+    }
+    let count = left.min(BURST_BYTES as u32);
+    held.clear();
+    out.put_rtt(task.lun, task.tag, task.asked, count);
+    Progress::Asked(Task {
+        asked: task.asked + count,
+        ..task
+    })
+}

@@ -1,0 +1,261 @@
+ghost use Rattle.std.specs.Prelude.{◌≡◌, ◌≤◌, ◌↔◌, ◌*◌, ◌+◌, ◌^◌, ◌-◌, ◌<◌, [], None, IsTrue, IsSome, IfOk, IfErr, IfSome, true, false};
+ghost use Rattle.hpb_outside.specs.Faults.{Rose, raised};
+ghost use Rattle.flash_pages.specs.Chip.{erased_chip};
+ghost use Rattle.region_state.specs.Shape.{IsWithinLimits};
+ghost use Rattle.hpb_device.specs.Limits.{limits_of};
+ghost use Rattle.hpb_device.specs.State.{AtRest, IsNewFault};
+
+use crate::accept::{Verdict, judge};
+use crate::advance::{Progress, advance};
+use crate::reply::{Reply, put_reply};
+use crate::task::{BURST_BYTES, Task};
+use flash_pages::{ChipOp, Flash};
+use flash_store::Store;
+use hpb_cdb::Limits;
+use hpb_outside::NewFault;
+use region_state::Shape;
+use std::alloc::Global;
+use std::marker::Model;
+use upiu_wire::UpiuBuf;
+
+/// Whether a call of `receive` sent a UPIU.
+#[derive(Clone, Copy, Debug, PartialEq, Eq)]
+pub enum Sent {
+    Nothing,
+    Upiu,
+}
+
+/// What one step did.
+#[derive(Clone, Copy, Debug, PartialEq, Eq)]
+pub struct Stepped {
+    /// Nothing was to be done.
+    pub idle: bool,
+    /// The call of the chip that failed.
+    pub failed: Option<ChipOp>,
+    /// The logical unit and the LBA of a block that the collector programmed anew.
+    pub moved: Option<(u8, u32)>,
+    /// A UPIU was sent.
+    pub sent: bool,
+}
+
+impl Stepped {
+    /// A step of a task.
+    fn of_task(failed: Option<ChipOp>, sent: bool) -> Stepped
+        ensures { result ≡ record { idle = false; failed = failed; moved = None; sent = sent } }
+    {
+        Stepped {
+            idle: false,
+            failed,
+            moved: None,
+            sent,
+        }
+    }
+
+    /// A step with nothing to do.
+    fn idle() -> Stepped
+        ensures { result ≡ record { idle = true; failed = None; moved = None; sent = false } }
+    {
+        Stepped {
+            idle: true,
+            failed: None,
+            moved: None,
+            sent: false,
+        }
+    }
+}
+
+/// What a device needs to go on.
+#[derive(Clone, Copy, Debug, PartialEq, Eq)]
+pub enum Waits {
+    /// A task: none is kept.
+    Nothing,
+    /// Data of the host, for the head task.
+    Host,
+    /// A step.
+    Step,
+}
+
+/// A device over a flash chip.
+#[derive(Drop)]
+pub struct Device<F: Flash> {
+    store: Store<F>,
+    shape: Shape,
+    luns: u8,
+    head: Option<Task>,
+    held: Vec<u8>,
+}
+
+impl<F: Flash> Model for Device<F> {
+    ghost use Rattle.std.specs.Prelude.{vec_capacity};
+    ghost use Rattle.hpb_device.specs.State.{DeviceState, IsDevice};
+
+    ghost Value = { DeviceState };
+
+    ghost view = { λ d. record { store = d.store; shape = d.shape; head = d.head; held = d.held.items } };
+
+    ghost invariant = { λ d. IsDevice d.store d.shape d.luns d.head d.held.items (vec_capacity d.held) };
+}
+
+impl<F: Flash> Device<F> {
+    ghost use Rattle.hpb_device.specs.Accept.{IsNextPiece};
+    ghost use Rattle.hpb_device.specs.Calls.{Receives, Steps, TakesData};
+
+    /// A device of `luns` logical units, each of this shape, over an erased chip. It takes all its memory here.
+    ///
+    /// It fails, and hands the chip back, with `Geometry` where a number of the shape is outside its limits or the chip
+    /// can't hold the units, and with `Memory` where there isn't enough memory.
+    pub fn new(
+        alloc: Global,
+        flash: F,
+        shape: Shape,
+        luns: u8,
+    ) -> Result<Device<F>, (F, NewFault)>
+        requires { F.pages flash ≡ erased_chip (F.geometry flash) }
+        ensures refused { IfErr result (λ refused. IsNewFault refused.1 (F.geometry flash) luns shape) }
+        ensures begun { IfOk result (λ device. IsNewFault NewFault.Memory (F.geometry flash) luns shape) }
+
+        ensures head { IfOk result (λ device. device.head ≡ None) }
+        ensures shape { IfOk result (λ device. device.shape ≡ shape) }
+        ensures luns { IfOk result (λ device. device.store.luns ≡ luns) }
+        ensures pages { IfOk result (λ device. device.store.pages ≡ F.pages flash) }
+        ensures geometry { IfOk result (λ device. device.store.geometry ≡ F.geometry flash) }
+        ensures faults { IfOk result (λ device. device.store.faults ≡ F.faults flash) }
+        ensures calls { IfOk result (λ device. device.store.calls ≡ F.calls flash) }
+
+        ensures pages_back { IfErr result (λ refused. F.pages refused.0 ≡ F.pages flash) }
+        ensures geometry_back { IfErr result (λ refused. F.geometry refused.0 ≡ F.geometry flash) }
+        ensures faults_back { IfErr result (λ refused. F.faults refused.0 ≡ F.faults flash) }
+        ensures calls_back { IfErr result (λ refused. F.calls refused.0 ≡ F.calls flash) }
+    {
+        if !shape.is_within_limits() {
+            return Err((flash, NewFault::Geometry));
+        }
+        let store = Store::new(alloc, flash, luns, shape.units)?;
+        match Vec::with_capacity(alloc, BURST_BYTES) {
+            Ok(held) => Ok(Device {
+                store,
+                shape,
+                luns,
+                head: None,
+                held,
+            }),
+            Err(_) => Err((store.into_flash(), NewFault::Memory)),
+        }
+    }
+
+    /// Gives the chip back.
+    pub fn into_flash(self) -> F
+        ensures pages { F.pages result ≡ self.store.pages }
+        ensures geometry { F.geometry result ≡ self.store.geometry }
+        ensures faults { F.faults result ≡ self.store.faults }
+        ensures calls { F.calls result ≡ self.store.calls }
+    {
+        self.store.into_flash()
+    }
+
+    /// Takes a UPIU of the host. What isn't kept is answered at once, by the UPIU in `out`.
+    pub fn receive(&mut self, bytes: &[u8], out: &mut UpiuBuf) -> Sent
+        ensures receives { Receives self.old self.new bytes.now result }
+        ensures store { self.new.store ≡ self.old.store }
+        ensures shape { self.new.shape ≡ self.old.shape }
+    {
+        let limits = limits_of(self.shape);
+        match judge(limits, self.luns, self.head, bytes) {
+            Verdict::Keep(task) => {
+                self.held.clear();
+                self.head = Some(task);
+                Sent::Nothing
+            }
+            Verdict::Data(segment) => {
+                self.take_data(segment);
+                Sent::Nothing
+            }
+            Verdict::Answer(reply) => {
+                put_reply(reply, out);
+                Sent::Upiu
+            }
+            Verdict::End(reply) => {
+                self.head = None;
+                put_reply(reply, out);
+                Sent::Upiu
+            }
+        }
+    }
+
+    /// Adds data that have come for the head.
+    fn take_data(&mut self, segment: &[u8])
+        requires { IfSome self.old.head (λ task. IsNextPiece task segment.now) }
+        ensures taken { IsSome self.old.head → TakesData self.old self.new segment.now }
+        ensures store { self.new.store ≡ self.old.store }
+        ensures shape { self.new.shape ≡ self.old.shape }
+    {
+        if let Some(task) = self.head {
+            self.held.extend_from_slice(segment).unwrap();
+            self.head = Some(task.with_data(segment.len() as u32));
+        }
+    }
+
+    /// One step of the head task. It makes at most one call of the chip and sends at most one UPIU, in `out`.
+    pub fn step(&mut self, out: &mut UpiuBuf) -> Stepped
+        ensures idle { IsTrue result.idle ↔ AtRest self.old }
+        ensures unchanged { IsTrue result.idle → self.new ≡ self.old }
+        ensures steps { Steps self.old self.new result out.new }
+        ensures shape { self.new.shape ≡ self.old.shape }
+    {
+        let Some(task) = self.head else {
+            return Stepped::idle();
+        };
+        if task.waits_for_data() {
+            return Stepped::idle();
+        }
+        match advance(&mut self.store, &mut self.held, task, out) {
+            Progress::Shown(rest) | Progress::Asked(rest) => {
+                self.head = Some(rest);
+                Stepped::of_task(None, true)
+            }
+            Progress::Programmed(rest) => {
+                self.head = Some(rest);
+                Stepped::of_task(None, false)
+            }
+            Progress::Ended(reply) => {
+                self.head = None;
+                put_reply(reply, out);
+                Stepped::of_task(None, true)
+            }
+            Progress::Failed(op, reply) => {
+                self.head = None;
+                put_reply(reply, out);
+                Stepped::of_task(Some(op), true)
+            }
+        }
+    }
+
+    /// What the device needs to go on.
+    pub fn waits(&self) -> Waits
+        ensures nothing { (result ≡ Waits.Nothing) ↔ (self.now.head ≡ None) }
+        ensures rest { (result ≡ Waits.Step) ↔ ¬ AtRest self.now }
+    {
+        match self.head {
+            None => Waits::Nothing,
+            Some(task) => {
+                if task.waits_for_data() {
+                    Waits::Host
+                } else {
+                    Waits::Step
+                }
+            }
+        }
+    }
+}
+
+/// The limits within which a CDB is read, in blocks.
+fn limits_of(shape: Shape) -> Limits
+    requires { IsWithinLimits shape }
+    ensures { result ≡ limits_of shape }
+{
+    Limits {
+        units: u64::from(shape.units),
+        per_region: 1 << (shape.region_exp - 3),
+        per_sub: 1 << (shape.sub_exp - 3),
+    }
+}

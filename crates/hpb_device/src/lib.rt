@@ -1,0 +1,10 @@
+//! A UFS device that serves the commands of its logical units over a flash chip, one step at a time.
+#![tactic(auto)]
+
+mod accept;
+mod advance;
+mod device;
+mod reply;
+mod task;
+
+pub use device::{Device, Sent, Stepped, Waits};

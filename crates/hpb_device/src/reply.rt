@@ -1,0 +1,85 @@
+ghost use Rattle.std.specs.Prelude.{◌≡◌, ◌<◌};
+ghost use Rattle.upiu_wire.specs.Upiu.{upiu_out};
+ghost use Rattle.hpb_device.specs.Reply.{cause_sense, reply_upiu};
+
+use hpb_sense::{FixedSense, put_fixed};
+use upiu_wire::UpiuBuf;
+
+/// The status of a command that succeeded (SAM).
+const GOOD: u8 = 0x00;
+
+/// The status of a command that failed, whose sense data says why (SAM).
+const CHECK_CONDITION: u8 = 0x02;
+
+/// The status where no more tasks can be kept (SAM).
+const TASK_SET_FULL: u8 = 0x28;
+
+/// The bytes of a segment with fixed sense.
+const SENSE_BYTES: usize = 20;
+
+/// Why a command ends with CHECK CONDITION (SPC, sense data). Which code stands for which event is this project's own.
+#[derive(Clone, Copy, Debug, PartialEq, Eq)]
+pub enum Cause {
+    ReadFailed,
+    WriteFailed,
+    UnknownOpcode,
+    OutOfRange,
+    InvalidField,
+    NoSuchUnit,
+    NoRoom,
+    DataNotAsked,
+}
+
+impl Cause {
+    /// The sense key and the additional sense code.
+    fn sense(self) -> FixedSense
+        ensures value { result ≡ cause_sense self }
+        ensures key { result.key < 16 }
+    {
+        let (key, asc) = match self {
+            Cause::ReadFailed => (0x3, 0x11),
+            Cause::WriteFailed => (0x3, 0x0C),
+            Cause::UnknownOpcode => (0x5, 0x20),
+            Cause::OutOfRange => (0x5, 0x21),
+            Cause::InvalidField => (0x5, 0x24),
+            Cause::NoSuchUnit => (0x5, 0x25),
+            Cause::NoRoom => (0x7, 0x27),
+            Cause::DataNotAsked => (0xB, 0x4B),
+        };
+        FixedSense { key, asc, ascq: 0 }
+    }
+}
+
+/// A UPIU that a device sends without data of a command.
+#[derive(Clone, Copy, Debug, PartialEq, Eq)]
+pub enum Reply {
+    NopIn { tag: u8 },
+    Reject { lun: u8, tag: u8, reason: u8 },
+    Good { lun: u8, tag: u8, residual: u32 },
+    TaskSetFull { lun: u8, tag: u8, residual: u32 },
+    Check { lun: u8, tag: u8, residual: u32, cause: Cause },
+}
+
+/// Writes the UPIU of a reply.
+pub fn put_reply(reply: Reply, out: &mut UpiuBuf)
+    ensures { out.new ≡ upiu_out (reply_upiu reply) }
+{
+    match reply {
+        Reply::NopIn { tag } => out.put_nop_in(tag),
+        Reply::Reject { lun, tag, reason } => out.put_reject(lun, tag, reason),
+        Reply::Good { lun, tag, residual } => out.put_response(lun, tag, GOOD, residual, &[]),
+        Reply::TaskSetFull { lun, tag, residual } => {
+            out.put_response(lun, tag, TASK_SET_FULL, residual, &[]);
+        }
+        Reply::Check {
+            lun,
+            tag,
+            residual,
+            cause,
+        } => {
+            let mut segment = [0; SENSE_BYTES];
+            put_fixed(&cause.sense(), &mut segment);
+            out.put_response(lun, tag, CHECK_CONDITION, residual, &segment);
+        }
+    }
+}

@@ -1,0 +1,70 @@
+ghost use Rattle.std.specs.Prelude.{◌≡◌, ◌+◌, ◌^◌, ◌<◌, ◌↔◌, IsTrue};
+ghost use Rattle.hpb_device.specs.Task.{WaitsForData};
+
+use hpb_cdb::Cdb;
+
+/// The most bytes that are asked for at once.
+pub const BURST_BYTES: usize = 32_768;
+
+/// The command that is kept, and how far it has come. Offsets and lengths are bytes of its data.
+#[derive(Clone, Copy, Debug, PartialEq, Eq)]
+pub struct Task {
+    pub lun: u8,
+    pub tag: u8,
+    pub command: Cdb,
+    /// The bytes that the host expects to move.
+    pub expected: u32,
+    /// The bytes that were asked for by READY TO TRANSFER.
+    pub asked: u32,
+    /// The bytes that have come by DATA OUT.
+    pub come: u32,
+    /// The bytes that were sent by DATA IN.
+    pub sent: u32,
+    /// The blocks that were programmed.
+    pub programmed: u32,
+}
+
+impl Task {
+    /// A command of which nothing is done yet.
+    pub fn new(lun: u8, tag: u8, command: Cdb, expected: u32) -> Task
+        ensures { result ≡ record {
+          lun = lun;
+          tag = tag;
+          command = command;
+          expected = expected;
+          asked = 0;
+          come = 0;
+          sent = 0;
+          programmed = 0;
+        } }
+    {
+        Task {
+            lun,
+            tag,
+            command,
+            expected,
+            asked: 0,
+            come: 0,
+            sent: 0,
+            programmed: 0,
+        }
+    }
+
+    /// Whether the host is to send data before the command can go on.
+    pub fn waits_for_data(&self) -> bool
+        ensures { IsTrue result ↔ WaitsForData self.now }
+    {
+        self.come < self.asked
+    }
+
+    /// The task with so many more bytes of data that have come.
+    pub fn with_data(self, count: u32) -> Task
+        requires { self.come + count < 2 ^ 32 }
+        ensures { result ≡ record self { come = self.come + count } }
+    {
+        Task {
+            come: self.come + count,
+            ..self
+        }
+    }
+}

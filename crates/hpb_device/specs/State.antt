@@ -1,5 +1,6 @@
 -- What a device is, to those who call it, and what it keeps true of its fields.
 use Rattle.std.specs.Prelude.{⊤, ◌≡◌, ℕ, ◌≤◌, List, Option, MatchOption, IfSome}
+use Rattle.std.specs.Option.{option_map_or}
 use Rattle.hpb_outside.specs.declared.errors.NewFault.{NewFault}
 use Rattle.hpb_outside.specs.declared.errors.NewFault.TheVariants as fault
 use Rattle.flash_pages.specs.declared.chip.Geometry.{Geometry}
@@ -8,7 +9,7 @@ use Rattle.region_state.specs.declared.shape.Shape.{Shape}
 use Rattle.region_state.specs.Shape.{IsWithinLimits}
 use Rattle.hpb_device.specs.declared.task.Task.{Task}
 use Rattle.hpb_device.specs.declared.task.TheConstants.{BURST_BYTES}
-use Rattle.hpb_device.specs.Task.{WaitsForData, IsTaskOk, HoldsData}
+use Rattle.hpb_device.specs.Task.{WaitsForData, IsTaskOk, HoldsData, steps_of}
 
 -- its store, the shape of each logical unit, the command that is kept, and the data of it that came last
 pub record DeviceState : Type 0 where
@@ -33,3 +34,7 @@ AtRest device = MatchOption device.head ⊤ WaitsForData
 abbrev pub IsNewFault : NewFault → Geometry → ℕ → Shape → Type 0
 IsNewFault fault.Geometry geometry luns shape = ¬ (IsWithinLimits shape × CanServe geometry luns shape.units)
 IsNewFault fault.Memory geometry luns shape = IsWithinLimits shape × CanServe geometry luns shape.units
+
+-- how many steps a device takes at most before it is at rest
+abbrev pub steps_left : DeviceState → ℕ
+steps_left device = option_map_or steps_of device.head 0

@@ -1,5 +1,5 @@
 -- The command that a device keeps, and how far it has come.
-use Rattle.std.specs.Prelude.{◌≡◌, ℕ, ◌+◌, ◌*◌, ◌%◌, ◌^◌, ◌<◌, ◌≤◌, Bool, true, false, List, length}
+use Rattle.std.specs.Prelude.{◌≡◌, ℕ, ◌+◌, ◌-◌, ◌*◌, ◌/◌, ◌%◌, ◌^◌, ◌<◌, ◌≤◌, Bool, true, false, List, length}
 use Rattle.flash_pages.specs.declared.chip.TheConstants.{BLOCK_BYTES}
 use Rattle.hpb_cdb.specs.declared.cdb.Cdb.{Cdb}
 use Rattle.hpb_cdb.specs.declared.cdb.Cdb.TheVariants.{Read, Write}
@@ -44,3 +44,9 @@ pub record HoldsData (held : List ℕ) (task : Task) : Type 0 where
   pub part : length held ≤ task.come
   pub rest : task.come ≤ BLOCK_BYTES * task.programmed + length held
   pub room : task.asked + length held ≤ task.come + BURST_BYTES
+
+-- how many steps a task takes at most: one for each block that is sent, asked for or programmed, and one for its answer
+abbrev pub steps_of : Task → ℕ
+steps_of task =
+    (bytes_given task.command - task.sent) / BLOCK_BYTES + (bytes_taken task.command - task.asked) / BLOCK_BYTES
+    + (bytes_taken task.command - BLOCK_BYTES * task.programmed) / BLOCK_BYTES + 1

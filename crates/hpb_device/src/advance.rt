@@ -1,6 +1,6 @@
 // One step of the command that is kept.
 ghost use Rattle.std.specs.Prelude.{◌≡◌, ◌+◌, ◌-◌, ◌*◌, ◌<◌, ◌≤◌, ℕ, List, [], length, vec_capacity};
-ghost use Rattle.hpb_device.specs.Task.{IsTaskOk, HoldsData};
+ghost use Rattle.hpb_device.specs.Task.{IsTaskOk, HoldsData, steps_of};
 ghost use Rattle.hpb_device.specs.Advance.{Advances, AllTasks, IsSameStore, MakesACallAtMost, check};
 
 use crate::reply::{Cause, Reply};
@@ -66,6 +66,7 @@ pub fn advance<F: Flash>(
     ensures advances { Advances store.old store.new held.old.items task result out.new }
     ensures ok { AllTasks (IsTaskOk store.old.luns store.old.units) result }
     ensures held { AllTasks (HoldsData held.new.items) result }
+    ensures fewer { AllTasks (λ rest. steps_of rest < steps_of task) result }
     ensures same { IsSameStore store.old store.new }
     ensures calls { MakesACallAtMost store.old store.new }
     ensures room { vec_capacity held.new ≡ vec_capacity held.old }
@@ -95,6 +96,7 @@ fn show<F: Flash>(
     requires command { task.command ≡ Cdb.Read lba n }
     ensures advances { Advances store.old store.new [] task result out.new }
     ensures ok { AllTasks (IsTaskOk store.old.luns store.old.units) result }
+    ensures fewer { AllTasks (λ rest. steps_of rest < steps_of task) result }
     ensures same { IsSameStore store.old store.new }
     ensures calls { MakesACallAtMost store.old store.new }
 {
@@ -123,6 +125,7 @@ fn program<F: Flash>(store: &mut Store<F>, held: &[u8], task: Task, lba: u32, n:
     ensures advances { (out : List ℕ) → Advances store.old store.new held.now task result out }
     ensures ok { AllTasks (IsTaskOk store.old.luns store.old.units) result }
     ensures held { AllTasks (HoldsData held.now) result }
+    ensures fewer { AllTasks (λ rest. steps_of rest < steps_of task) result }
     ensures same { IsSameStore store.old store.new }
     ensures calls { MakesACallAtMost store.old store.new }
 {
@@ -153,6 +156,7 @@ fn ask<F: Flash>(
     requires programmed { BLOCK_BYTES * task.programmed ≡ task.come }
     ensures advances { Advances store.now store.now held.old.items task result out.new }
     ensures ok { AllTasks (IsTaskOk store.now.luns store.now.units) result }
+    ensures fewer { AllTasks (λ rest. steps_of rest < steps_of task) result }
     ensures held { AllTasks (HoldsData held.new.items) result }
     ensures room { vec_capacity held.new ≡ vec_capacity held.old }
 {

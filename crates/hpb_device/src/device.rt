@@ -3,7 +3,8 @@ ghost use Rattle.hpb_outside.specs.Faults.{Rose, raised};
 ghost use Rattle.flash_pages.specs.Chip.{erased_chip};
 ghost use Rattle.region_state.specs.Shape.{IsWithinLimits};
 ghost use Rattle.hpb_device.specs.Limits.{limits_of};
-ghost use Rattle.hpb_device.specs.State.{AtRest, IsNewFault};
+ghost use Rattle.hpb_device.specs.State.{AtRest, IsNewFault, steps_left};
+ghost use Rattle.std.specs.Bool.{OnFalse};
 
 use crate::accept::{Verdict, judge};
 use crate::advance::{Progress, advance};
@@ -200,6 +201,7 @@ impl<F: Flash> Device<F> {
         ensures idle { IsTrue result.idle ↔ AtRest self.old }
         ensures unchanged { IsTrue result.idle → self.new ≡ self.old }
         ensures steps { Steps self.old self.new result out.new }
+        ensures fewer { OnFalse result.idle (steps_left self.new < steps_left self.old) }
         ensures shape { self.new.shape ≡ self.old.shape }
     {
         let Some(task) = self.head else {

@@ -1,0 +1,13 @@
+//! The program: it replays a trace of UPIUs against a device, and prints the UPIUs of both sides.
+#![tactic(auto)]
+
+mod form;
+mod output;
+mod program;
+mod replay;
+mod status;
+mod words;
+
+pub use program::run;
+pub use status::{Outcome, Status};
+pub use words::chip_of;

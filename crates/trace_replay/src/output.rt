@@ -1,0 +1,109 @@
+ghost use Rattle.std.specs.Prelude.{◌≡◌, ◌+◌, ◌*◌, ◌≤◌, ◌++◌, ◌↔◌, [], length, IfOk, IsTrue};
+ghost use Rattle.hpb_outside.specs.Faults.{HasCause};
+ghost use Rattle.flat_unit.specs.Print.{line_of};
+ghost use Rattle.trace_text.specs.Written.{upiu_line};
+ghost use Rattle.trace_replay.specs.Writes.{Writes};
+ghost use Rattle.trace_replay.specs.declared.output.TheConstants.{OUTPUT_BYTES, LINE_ROOM};
+
+use flat_unit::Event;
+use hpb_outside::{Failed, NoMemory, Sink};
+use std::alloc::Global;
+use std::marker::Model;
+use trace_text::{put_event, put_upiu};
+
+/// The bytes that are gathered at most.
+const OUTPUT_BYTES: usize = 524_288;
+
+/// The room that the lines of one call need at most: a UPIU of the host of 65,568 bytes and its answer, as hex.
+pub(crate) const LINE_ROOM: usize = 139_520;
+
+/// Text that is gathered until it is written in one piece.
+#[derive(Drop)]
+pub(crate) struct Output {
+    text: Vec<u8>,
+    len: usize,
+}
+
+impl Model for Output {
+    ghost use Rattle.std.specs.Prelude.{◌≡◌, ◌≤◌, ℕ, List, length, take};
+    ghost use Rattle.trace_replay.specs.declared.output.TheConstants.{OUTPUT_BYTES};
+
+    ghost Value = { List ℕ };
+
+    ghost view = { λ o. take o.len o.text.items };
+
+    ghost invariant = { λ o. (o.len ≤ OUTPUT_BYTES) × (length o.text.items ≡ OUTPUT_BYTES) };
+}
+
+impl Output {
+    /// Nothing yet. It takes all its memory here.
+    pub(crate) fn new(alloc: Global) -> Result<Output, NoMemory>
+        ensures { IfOk result (λ output. output ≡ []) }
+    {
+        let text = vec![in alloc; 0; OUTPUT_BYTES]?;
+        Ok(Output { text, len: 0 })
+    }
+
+    /// Adds the line of a UPIU behind a mark.
+    pub(crate) fn push_upiu(&mut self, mark: u8, bytes: &[u8])
+        requires { length self.old + (2 * length bytes.now + 3) ≤ OUTPUT_BYTES }
+        ensures { self.new ≡ self.old ++ upiu_line mark bytes.now }
+    {
+        let len = put_upiu(mark, bytes, &mut self.text[self.len..]);
+        self.len += len;
+    }
+
+    /// Adds the line of an event.
+    pub(crate) fn push_event(&mut self, event: &Event)
+        requires { length self.old + length (line_of event.now) ≤ OUTPUT_BYTES }
+        ensures { self.new ≡ self.old ++ line_of event.now }
+    {
+        let len = put_event(event, &mut self.text[self.len..]);
+        self.len += len;
+    }
+
+    /// Adds a text.
+    pub(crate) fn push_text(&mut self, text: &[u8])
+        requires { length self.old + length text.now ≤ OUTPUT_BYTES }
+        ensures { self.new ≡ self.old ++ text.now }
+    {
+        let end = self.len + text.len();
+        self.text[self.len..end].copy_from_slice(text);
+        self.len = end;
+    }
+
+    /// Whether there is room for the lines of one call.
+    pub(crate) fn has_room(&self) -> bool
+        ensures { IsTrue result ↔ (length self.now + LINE_ROOM ≤ OUTPUT_BYTES) }
+    {
+        self.len <= OUTPUT_BYTES - LINE_ROOM
+    }
+
+    /// Writes what was gathered, in as few pieces as the sink takes, and forgets it.
+    pub(crate) fn flush<K: Sink>(&mut self, sink: &mut K) -> Result<(), Failed>
+        ensures writes { Writes (K.written sink.old) (K.written sink.new) result self.old }
+        ensures empty { self.new ≡ [] }
+        ensures cause { HasCause (K.faults sink.old) (K.faults sink.new) result }
+    {
+        let len = self.len;
+        self.len = 0;
+        write_all(sink, &self.text[..len])
+    }
+}
+
+/// Writes a text, piece by piece.
+pub(crate) fn write_all<K: Sink>(sink: &mut K, text: &[u8]) -> Result<(), Failed>
+    ensures writes { Writes (K.written sink.old) (K.written sink.new) result text.now }
+    ensures cause { HasCause (K.faults sink.old) (K.faults sink.new) result }
+{
+    let mut rest = text;
+    while !rest.is_empty() {
+        let count = sink.write(rest)?;
+        if count == 0 {
+            return Err(Failed);
+        }
+        let (_, after) = rest.split_at(count);
+        rest = after;
+    }
+    Ok(())
+}

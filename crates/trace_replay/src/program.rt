@@ -1,0 +1,163 @@
+ghost use Rattle.std.specs.Prelude.{◌≡◌, ◌≤◌, ◌↔◌, ◌⊎◌, map, string_bytes};
+ghost use Rattle.hpb_outside.specs.Faults.{HasCause, Rose};
+ghost use Rattle.flash_pages.specs.Chip.{erased_chip};
+ghost use Rattle.trace_replay.specs.Words.{IsReplay};
+
+use crate::output::{Output, write_all};
+use crate::replay::{Buffers, Turn, make_room, take_turn};
+use crate::status::{Outcome, Status};
+use crate::words::is_replay;
+use flash_pages::{Flash, Geometry};
+use hpb_device::Device;
+use hpb_outside::{Failed, NewFault, Sink, Source};
+use itoa::Buffer;
+use region_state::{Mode, Shape};
+use std::alloc::Global;
+
+/// The lines that a trace has at most.
+const LINES: u32 = 1_000_000;
+
+/// Replays the trace of a source against a device over an erased chip, and prints the transcript.
+///
+/// The words are those after the program's name: the one word `replay`. The device has one logical unit, of as many
+/// blocks as the chip has pages but for three erase blocks.
+pub fn run<S: Source, K: Sink, F: Flash>(
+    alloc: Global,
+    words: &[String],
+    source: &mut S,
+    sink: &mut K,
+    flash: F,
+) -> Outcome<F>
+    requires { F.pages flash ≡ erased_chip (F.geometry flash) }
+    ensures read_fault { result.status ≡ Status.ReadFault → Rose (S.faults source.old) (S.faults source.new) }
+    ensures write_fault { result.status ≡ Status.WriteFault → Rose (K.faults sink.old) (K.faults sink.new) }
+    ensures source_later { S.faults source.old ≤ S.faults source.new }
+    ensures sink_later { K.faults sink.old ≤ K.faults sink.new }
+{
+    if !is_replay(words) {
+        return refused(sink, Status::Usage, b"E usage\n", flash);
+    }
+    let shape = whole_chip(flash.geometry());
+    let mut device = match Device::new(alloc, flash, shape, 1) {
+        Ok(device) => device,
+        Err((flash, NewFault::Geometry)) => {
+            return refused(sink, Status::Geometry, b"E geometry\n", flash);
+        }
+        Err((flash, NewFault::Memory)) => {
+            return Outcome {
+                status: Status::Memory,
+                flash,
+            };
+        }
+    };
+    let status = match Buffers::new(alloc) {
+        Ok(mut buffers) => replay(&mut device, &mut buffers, source, sink),
+        Err(_) => Status::Memory,
+    };
+    Outcome {
+        status,
+        flash: device.into_flash(),
+    }
+}
+
+/// The shape of a unit with all blocks that a chip of this geometry can hold.
+fn whole_chip(geometry: Geometry) -> Shape {
+    Shape {
+        units: geometry
+            .blocks
+            .saturating_sub(3)
+            .saturating_mul(geometry.pages),
+        region_exp: 10,
+        sub_exp: 8,
+        held: 4,
+        mode: Mode::Device,
+    }
+}
+
+/// The outcome where nothing is replayed.
+fn refused<K: Sink, F: Flash>(sink: &mut K, status: Status, text: &[u8], flash: F) -> Outcome<F>
+    ensures status { (result.status ≡ status) ⊎ (result.status ≡ Status.WriteFault) }
+    ensures write_fault { result.status ≡ Status.WriteFault → (status ≡ Status.WriteFault)
+        ⊎ Rose (K.faults sink.old) (K.faults sink.new) }
+    ensures later { K.faults sink.old ≤ K.faults sink.new }
+    ensures flash { result.flash ≡ flash }
+{
+    match write_all(sink, text) {
+        Ok(()) => Outcome { status, flash },
+        Err(Failed) => Outcome {
+            status: Status::WriteFault,
+            flash,
+        },
+    }
+}
+
+/// Replays the lines of a trace to its end, or to what ends it before.
+fn replay<S: Source, K: Sink, F: Flash>(
+    device: &mut Device<F>,
+    buffers: &mut Buffers,
+    source: &mut S,
+    sink: &mut K,
+) -> Status
+    ensures read_fault { result ≡ Status.ReadFault → Rose (S.faults source.old) (S.faults source.new) }
+    ensures write_fault { result ≡ Status.WriteFault → Rose (K.faults sink.old) (K.faults sink.new) }
+    ensures source_later { S.faults source.old ≤ S.faults source.new }
+    ensures sink_later { K.faults sink.old ≤ K.faults sink.new }
+{
+    for number in 0..LINES {
+        match take_turn(device, buffers, source, sink) {
+            Turn::Served => {}
+            Turn::Ended => return finish(&mut buffers.output, sink, Status::Done),
+            Turn::Unread => return finish(&mut buffers.output, sink, Status::ReadFault),
+            Turn::Unwritten => return Status::WriteFault,
+            Turn::Bad => return refuse_line(&mut buffers.output, sink, number + 1),
+        }
+    }
+    end_long(buffers, source, sink)
+}
+
+/// Writes what was gathered, and ends with this status.
+fn finish<K: Sink>(output: &mut Output, sink: &mut K, status: Status) -> Status
+    ensures status { (result ≡ status) ⊎ ((result ≡ Status.WriteFault) × Rose (K.faults sink.old) (K.faults sink.new)) }
+    ensures later { K.faults sink.old ≤ K.faults sink.new }
+{
+    match output.flush(sink) {
+        Ok(()) => status,
+        Err(Failed) => Status::WriteFault,
+    }
+}
+
+/// Ends at a line that the trace can't have.
+fn refuse_line<K: Sink>(output: &mut Output, sink: &mut K, number: u32) -> Status
+    ensures status { (result ≡ Status.BadLine number)
+        ⊎ ((result ≡ Status.WriteFault) × Rose (K.faults sink.old) (K.faults sink.new)) }
+    ensures later { K.faults sink.old ≤ K.faults sink.new }
+{
+    if make_room(output, sink).is_err() {
+        return Status::WriteFault;
+    }
+    let mut buffer = Buffer::new();
+    output.push_text(b"E line ");
+    output.push_text(buffer.format(number).as_bytes());
+    output.push_text(b"\n");
+    finish(output, sink, Status::BadLine(number))
+}
+
+/// Ends after the last line that a trace may have.
+fn end_long<S: Source, K: Sink>(buffers: &mut Buffers, source: &mut S, sink: &mut K) -> Status
+    ensures read_fault { result ≡ Status.ReadFault → Rose (S.faults source.old) (S.faults source.new) }
+    ensures write_fault { result ≡ Status.WriteFault → Rose (K.faults sink.old) (K.faults sink.new) }
+    ensures source_later { S.faults source.old ≤ S.faults source.new }
+    ensures sink_later { K.faults sink.old ≤ K.faults sink.new }
+{
+    if buffers.output.flush(sink).is_err() {
+        return Status::WriteFault;
+    }
+    match buffers.reader.has_more(source) {
+        Ok(false) => Status::Done,
+        Ok(true) => {
+            buffers.output.push_text(b"E long\n");
+            finish(&mut buffers.output, sink, Status::LongTrace)
+        }
+        Err(Failed) => Status::ReadFault,
+    }
+}

@@ -1,0 +1,179 @@
+ghost use Rattle.std.specs.Prelude.{◌≡◌, ◌≤◌, ◌+◌, length, OnOk};
+ghost use Rattle.trace_text.specs.Grammar.{room_taken};
+ghost use Rattle.hpb_outside.specs.Faults.{HasCause, Rose};
+ghost use Rattle.trace_replay.specs.declared.output.TheConstants.{OUTPUT_BYTES, LINE_ROOM};
+
+use crate::form::is_served;
+use crate::output::Output;
+use flash_pages::Flash;
+use flat_unit::Event;
+use hpb_device::{Device, Sent, Stepped, Waits};
+use hpb_outside::{Failed, NoMemory, Sink, Source};
+use std::alloc::Global;
+use trace_text::{Line, LineFault, LineReader, parse_line};
+use upiu_wire::UpiuBuf;
+
+/// The room for the UPIU of a line.
+const ROOM_BYTES: usize = 65_600;
+
+/// What a replay reads into and writes from. It takes all its memory when it is made.
+#[derive(Drop)]
+pub(crate) struct Buffers {
+    pub reader: LineReader,
+    pub room: Vec<u8>,
+    pub upiu: UpiuBuf,
+    pub output: Output,
+    ghost whole: { length room.items ≡ 65600 },
+}
+
+impl Buffers {
+    pub(crate) fn new(alloc: Global) -> Result<Buffers, NoMemory> {
+        let reader = LineReader::new(alloc)?;
+        let room = vec![in alloc; 0; ROOM_BYTES]?;
+        let output = Output::new(alloc)?;
+        Ok(Buffers {
+            reader,
+            room,
+            upiu: UpiuBuf::new(),
+            output,
+        })
+    }
+}
+
+/// What one line of a trace came to.
+#[derive(Clone, Copy, Debug, PartialEq, Eq)]
+pub(crate) enum Turn {
+    /// It was served.
+    Served,
+    /// There was none: the trace is at its end.
+    Ended,
+    /// It isn't one that the trace can have.
+    Bad,
+    /// The source failed.
+    Unread,
+    /// The sink failed, or took nothing.
+    Unwritten,
+}
+
+/// Writes what was gathered, where there is no room for the lines of one more call.
+pub(crate) fn make_room<K: Sink>(output: &mut Output, sink: &mut K) -> Result<(), Failed>
+    ensures room { OnOk result (length output.new + LINE_ROOM ≤ OUTPUT_BYTES) }
+    ensures cause { HasCause (K.faults sink.old) (K.faults sink.new) result }
+{
+    if output.has_room() {
+        return Ok(());
+    }
+    output.flush(sink)
+}
+
+/// Adds the lines of a step.
+fn push_step(stepped: Stepped, upiu: &UpiuBuf, output: &mut Output)
+    requires { length output.old + LINE_ROOM ≤ OUTPUT_BYTES }
+{
+    if let Some(op) = stepped.failed {
+        output.push_event(&Event::Failed(op));
+    }
+    if stepped.sent {
+        output.push_upiu(b'<', upiu.bytes());
+    }
+}
+
+/// Steps until nothing can go on without the host.
+fn drain<K: Sink, F: Flash>(
+    device: &mut Device<F>,
+    upiu: &mut UpiuBuf,
+    output: &mut Output,
+    sink: &mut K,
+) -> Result<(), Failed>
+    ensures cause { HasCause (K.faults sink.old) (K.faults sink.new) result }
+{
+    'steps: while let Waits::Step = device.waits() {
+        make_room(output, sink)?;
+        let stepped = device.step(upiu);
+        push_step(stepped, upiu, output);
+    }
+    Ok(())
+}
+
+/// Hands the device a UPIU of the host.
+fn receive_line<K: Sink, F: Flash>(
+    device: &mut Device<F>,
+    bytes: &[u8],
+    upiu: &mut UpiuBuf,
+    output: &mut Output,
+    sink: &mut K,
+) -> Turn
+    requires { length bytes.now ≤ 65568 }
+    ensures later { K.faults sink.old ≤ K.faults sink.new }
+    ensures unwritten { result ≡ Turn.Unwritten → Rose (K.faults sink.old) (K.faults sink.new) }
+    ensures read { ¬ (result ≡ Turn.Unread) }
+{
+    if !is_served(bytes) {
+        return Turn::Bad;
+    }
+    if make_room(output, sink).is_err() {
+        return Turn::Unwritten;
+    }
+    match device.receive(bytes, upiu) {
+        Sent::Nothing => {
+            output.push_upiu(b'>', bytes);
+            Turn::Served
+        }
+        Sent::Upiu => Turn::Bad,
+    }
+}
+
+/// Serves a line, whose UPIU stands at the front of the room.
+fn serve<K: Sink, F: Flash>(
+    device: &mut Device<F>,
+    line: Line,
+    buffers: &mut Buffers,
+    sink: &mut K,
+) -> Turn
+    requires { room_taken line ≤ 65568 }
+    ensures later { K.faults sink.old ≤ K.faults sink.new }
+    ensures unwritten { result ≡ Turn.Unwritten → Rose (K.faults sink.old) (K.faults sink.new) }
+    ensures read { ¬ (result ≡ Turn.Unread) }
+{
+    let Buffers {
+        room, upiu, output, ..
+    } = buffers;
+    match line {
+        Line::Blank => Turn::Served,
+        Line::Drain => match drain(device, upiu, output, sink) {
+            Ok(()) => Turn::Served,
+            Err(Failed) => Turn::Unwritten,
+        },
+        Line::Upiu(count) => receive_line(device, &room[..count], upiu, output, sink),
+        Line::Steps(_) | Line::Collect(_) | Line::Reset => Turn::Bad,
+    }
+}
+
+/// Reads one line and serves it. What was gathered is written before the source is asked for more.
+pub(crate) fn take_turn<S: Source, K: Sink, F: Flash>(
+    device: &mut Device<F>,
+    buffers: &mut Buffers,
+    source: &mut S,
+    sink: &mut K,
+) -> Turn
+    ensures source_later { S.faults source.old ≤ S.faults source.new }
+    ensures sink_later { K.faults sink.old ≤ K.faults sink.new }
+    ensures unread { result ≡ Turn.Unread → Rose (S.faults source.old) (S.faults source.new) }
+    ensures unwritten { result ≡ Turn.Unwritten → Rose (K.faults sink.old) (K.faults sink.new) }
+{
+    if !buffers.reader.holds_line() {
+        if buffers.output.flush(sink).is_err() {
+            return Turn::Unwritten;
+        }
+    }
+    let parsed = match buffers.reader.next_line(source) {
+        Ok(Some(line)) => parse_line(line, &mut buffers.room),
+        Ok(None) => return Turn::Ended,
+        Err(LineFault::TooLong) => return Turn::Bad,
+        Err(LineFault::ReadFault) => return Turn::Unread,
+    };
+    match parsed {
+        Some(line) => serve(device, line, buffers, sink),
+        None => Turn::Bad,
+    }
+}

@@ -1,1 +1,4 @@
 pub mod Shape
+pub mod Subregion
+pub mod Lists
+pub mod Machine

@@ -1,9 +1,21 @@
 -- What comes of bytes of the host.
-use Rattle.std.specs.Prelude.{⊤, ◌≡◌, ℕ, ◌+◌, ◌<◌, ◌≤◌, List, length, Option, Some, None}
+use Rattle.std.specs.Prelude.{⊤, ◌≡◌, ℕ, ◌+◌, ◌<◌, ◌≤◌, Bool, true, not, ◌==◌, ◌&&◌, nat_le, List, [], ◌∷◌, ◌++◌, length, Option, Some, None, Result, Ok, Err}
 use Rattle.hpb_cdb.specs.declared.limits.Limits.{Limits}
 use Rattle.hpb_cdb.specs.Cdb.{IsCdb}
-use Rattle.upiu_wire.specs.Upiu.{Upiu}
+use Rattle.upiu_wire.specs.Upiu.{Upiu, upiu_at}
+use Rattle.flat_unit.specs.declared.event.Event.TheVariants.{Host}
+use Rattle.flat_unit.specs.Command.{command_of}
+use Rattle.flat_unit.specs.Queue.{tasks_changed, task_of, change_head, with_data}
+use Rattle.flat_unit.specs.Reply.{reply_of, command_refusal, data_refusal}
+use Rattle.flat_unit.specs.Senses.{sense_of_fault}
+use Rattle.flat_unit.specs.Sizes.{Sizes}
+use Rattle.flat_unit.specs.Task.{Task as Waiting}
+use Rattle.hpb_cdb.specs.declared.cdb.Cdb.{Cdb}
+use Rattle.hpb_cdb.specs.declared.fault.CdbFault.{CdbFault}
+use Rattle.hpb_device.specs.declared.reply.Cause.{Cause}
+use Rattle.hpb_device.specs.Reply.{reply_upiu, cause_sense}
 use Rattle.hpb_device.specs.declared.task.Task.{Task}
+use Rattle.hpb_device.specs.declared.reply.Reply.{Reply}
 use Rattle.hpb_device.specs.declared.accept.Verdict.{Verdict}
 use Rattle.hpb_device.specs.declared.accept.Verdict.TheVariants.{Keep, Data, Answer, End}
 use Rattle.hpb_device.specs.Task.{WaitsForData, IsTaskOk}
@@ -19,6 +31,11 @@ pub record IsNextPiece (task : Task) (segment : List ℕ) : Type 0 where
   pub some : 0 < length segment
   pub asked : task.come + length segment ≤ task.asked
 
+-- the DATA OUT goes on where the data that have come end, within what the task asked for
+abbrev pub goes_on : Task → Upiu → Bool
+goes_on task upiu =
+    (upiu.first == task.come) && ((upiu.count == length upiu.segment) && (not (upiu.count == 0) && nat_le (task.come + upiu.count) task.asked))
+
 -- a command is kept where none is, and data are taken where the task waits for them
 abbrev pub IsVerdict : Limits → ℕ → Option Task → Upiu → Verdict → Type 0
 IsVerdict lim luns head upiu (Keep task) = (head ≡ None) × IsBegun lim luns upiu task
@@ -27,3 +44,36 @@ IsVerdict lim luns None upiu (Data segment) = ⊥
 IsVerdict lim luns head upiu (Answer reply) = ⊤
 IsVerdict lim luns (Some task) upiu (End reply) = WaitsForData task
 IsVerdict lim luns None upiu (End reply) = ⊥
+
+-- the command of a CDB, or why it is refused
+abbrev pub IsCommandOf : Sizes → List ℕ → Result Cdb Cause → Type 0
+IsCommandOf s cdb (Ok command) = command_of s cdb ≡ Ok command
+IsCommandOf s cdb (Err cause) = (fault : CdbFault) × (command_of s cdb ≡ Err fault) × (cause_sense cause ≡ sense_of_fault fault)
+
+-- nothing stands against a command
+pub record IsUnopposed (s : Sizes) (tasks : List Waiting) (upiu : Upiu) (task : Task) : Type 0 where
+  pub unopposed : command_refusal s true tasks upiu ≡ None
+  pub command : command_of s upiu.cdb ≡ Ok task.command
+
+-- what comes of a COMMAND is what the tasks that are kept allow
+abbrev pub IsJudged : Sizes → List Waiting → Upiu → Result Task Reply → Type 0
+IsJudged s tasks upiu (Ok task) = IsUnopposed s tasks upiu task
+IsJudged s tasks upiu (Err reply) = command_refusal s true tasks upiu ≡ Some (reply_upiu reply)
+
+-- what comes of a DATA OUT is what the tasks that are kept allow
+abbrev pub IsDataVerdict : List Waiting → Upiu → Verdict → Type 0
+IsDataVerdict tasks upiu (Keep task) = ⊥
+IsDataVerdict tasks upiu (Data segment) = (data_refusal tasks upiu ≡ None) × (segment.now ≡ upiu.segment)
+IsDataVerdict tasks upiu (Answer reply) = data_refusal tasks upiu ≡ Some (reply_upiu reply)
+IsDataVerdict tasks upiu (End reply) = data_refusal tasks upiu ≡ Some (reply_upiu reply)
+
+-- what comes of bytes is what the tasks that are kept allow
+abbrev pub Follows : Sizes → List Waiting → List ℕ → Verdict → Type 0
+Follows s tasks bytes (Keep task) =
+    (reply_of s true tasks bytes ≡ None)
+    × (tasks_changed s true tasks (Host bytes) ≡ tasks ++ task_of (upiu_at bytes) task.command ∷ [])
+Follows s tasks bytes (Data segment) =
+    (reply_of s true tasks bytes ≡ None)
+    × (tasks_changed s true tasks (Host bytes) ≡ change_head (with_data segment.now) tasks)
+Follows s tasks bytes (Answer reply) = reply_of s true tasks bytes ≡ Some (reply_upiu reply)
+Follows s tasks bytes (End reply) = reply_of s true tasks bytes ≡ Some (reply_upiu reply)

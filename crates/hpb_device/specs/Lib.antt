@@ -1,7 +1,9 @@
 pub mod Accept
 pub mod Advance
 pub mod Calls
+pub mod Keeps
 pub mod Limits
 pub mod Reply
+pub mod Sizes
 pub mod State
 pub mod Task

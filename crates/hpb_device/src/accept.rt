@@ -1,9 +1,14 @@
 // What comes of the bytes of the host, by the command that is kept.
-ghost use Rattle.std.specs.Prelude.{◌≡◌, ◌<◌, ◌^◌, length, None, IfOk, IfSome, OnOk};
+ghost use Rattle.std.specs.Prelude.{◌≡◌, ◌<◌, ◌^◌, ℕ, List, length, None, IfOk, IfSome, OnOk};
 ghost use Rattle.std.specs.Bool.{OnTrue};
 ghost use Rattle.hpb_cdb.specs.Cdb.{IsCdb};
 ghost use Rattle.upiu_wire.specs.Upiu.{upiu_at};
-ghost use Rattle.hpb_device.specs.Accept.{IsVerdict, IsBegun, IsNextPiece};
+ghost use Rattle.flat_unit.specs.Reply.{fault_rejection};
+ghost use Rattle.flat_unit.specs.Task.{Task as Waiting};
+ghost use Rattle.hpb_device.specs.Accept.{IsVerdict, IsBegun, IsNextPiece, IsCommandOf, IsJudged, IsDataVerdict, Follows, goes_on};
+ghost use Rattle.hpb_device.specs.Keeps.{KeepsTasks};
+ghost use Rattle.hpb_device.specs.Reply.{reply_upiu};
+ghost use Rattle.hpb_device.specs.Sizes.{sizes};
 ghost use Rattle.hpb_device.specs.Task.{IsServed, IsTaskOk};
 
 use crate::reply::{Cause, Reply};
@@ -37,7 +42,9 @@ pub fn judge<'a>(limits: Limits, luns: u8, head: Option<Task>, bytes: &'a [u8]) 
     requires limits { 0 < limits.per_sub }
     requires few_blocks { limits.units < 2 ^ 32 }
     requires head { IfSome head (IsTaskOk luns limits.units) }
-    ensures { IsVerdict limits luns head (upiu_at bytes.now) result }
+    ensures verdict { IsVerdict limits luns head (upiu_at bytes.now) result }
+    ensures follows { (erase_block : ℕ) (held : List ℕ) (tasks : List Waiting) → KeepsTasks head held tasks
+        → Follows (sizes luns limits erase_block) tasks bytes.now result }
 {
     match UpiuView::parse(bytes) {
         Err(fault) => Verdict::Answer(reject_bytes(bytes, fault.number())),
@@ -58,7 +65,9 @@ pub fn judge<'a>(limits: Limits, luns: u8, head: Option<Task>, bytes: &'a [u8]) 
 }
 
 /// The REJECT of bytes that are no UPIU.
-fn reject_bytes(bytes: &[u8], reason: u8) -> Reply {
+fn reject_bytes(bytes: &[u8], reason: u8) -> Reply
+    ensures { reply_upiu result ≡ fault_rejection bytes.now reason }
+{
     match bytes {
         [_, _, lun, tag, ..] => Reply::Reject {
             lun: *lun,
@@ -84,6 +93,8 @@ fn judge_command(
     requires few_blocks { limits.units < 2 ^ 32 }
     ensures alone { OnOk result (head ≡ None) }
     ensures begun { IfOk result (IsBegun limits luns (upiu_at view.now)) }
+    ensures judged { (erase_block : ℕ) (held : List ℕ) (tasks : List Waiting) → KeepsTasks head held tasks
+        → IsJudged (sizes luns limits erase_block) tasks (upiu_at view.now) result }
 {
     let lun = view.lun();
     let tag = view.tag();
@@ -130,6 +141,7 @@ fn command_of(limits: Limits, cdb: &[u8]) -> Result<Cdb, Cause>
     requires limits { 0 < limits.per_sub }
     ensures command { IfOk result (IsCdb cdb.now limits) }
     ensures served { IfOk result (IsServed limits.units) }
+    ensures command_of { (luns : ℕ) (erase_block : ℕ) → IsCommandOf (sizes luns limits erase_block) cdb.now result }
 {
     if cdb[0] != READ_10 && cdb[0] != WRITE_10 {
         return Err(Cause::UnknownOpcode);
@@ -143,15 +155,15 @@ fn command_of(limits: Limits, cdb: &[u8]) -> Result<Cdb, Cause>
 }
 
 /// Whether a DATA OUT goes on where the data that have come end, within what was asked for.
-fn is_next_piece(task: Task, view: &UpiuView<'_>) -> bool
-    requires { task.come < task.asked }
-    ensures { OnTrue result (IsNextPiece task (upiu_at view.now).segment) }
+fn goes_on(task: Task, view: &UpiuView<'_>) -> bool
+    ensures value { result ≡ goes_on task (upiu_at view.now) }
+    ensures piece { OnTrue result (IsNextPiece task (upiu_at view.now).segment) }
 {
     let count = view.count();
-    view.first() == task.come
-        && count as usize == view.segment().len()
-        && count != 0
-        && count <= task.asked - task.come
+    if view.first() != task.come || count as usize != view.segment().len() {
+        return false;
+    }
+    count != 0 && u64::from(task.come) + u64::from(count) <= u64::from(task.asked)
 }
 
 /// What comes of a DATA OUT.
@@ -162,7 +174,9 @@ fn judge_data<'a>(
     view: &UpiuView<'a>,
 ) -> Verdict<'a>
     requires { IfSome head (IsTaskOk luns limits.units) }
-    ensures { IsVerdict limits luns head (upiu_at view.now) result }
+    ensures verdict { IsVerdict limits luns head (upiu_at view.now) result }
+    ensures follows { (held : List ℕ) (tasks : List Waiting) → KeepsTasks head held tasks
+        → IsDataVerdict tasks (upiu_at view.now) result }
 {
     let lun = view.lun();
     let tag = view.tag();
@@ -177,7 +191,7 @@ fn judge_data<'a>(
     if !task.waits_for_data() || task.lun != lun || task.tag != tag {
         return Verdict::Answer(not_waited_for);
     }
-    if !is_next_piece(task, view) {
+    if !goes_on(task, view) {
         return Verdict::End(Reply::Check {
             lun,
             tag,

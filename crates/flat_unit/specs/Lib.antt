@@ -12,6 +12,7 @@ pub mod Queue
 pub mod Contents
 pub mod Sends
 pub mod Sound
+pub mod Tasks
 pub mod Writes
 pub mod Causes
 pub mod Stands

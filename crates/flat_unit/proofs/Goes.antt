@@ -1,27 +1,26 @@
 -- How what a device keeps goes from one moment to the next, for each UPIU that it sends.
-use Rattle.std.proofs.Common.{◌≡◌, ℕ, zero, ◌+◌, ◌*◌, ◌/◌, ◌≤◌, ◌<◌, Bool, true, false, cond, not, ◌&&◌, List, [], ◌∷◌, ◌++◌, length, Option, Some, None, refl, sym, ◌∙◌, ap, subst, arith, filter, nat_le, nat_lt, ◌==◌, slice_range, inl, inr}
+use Rattle.std.proofs.Common.{◌≡◌, ℕ, ◌+◌, ◌≤◌, Bool, true, false, cond, not, ◌&&◌, List, [], ◌∷◌, length, Option, Some, None, refl, sym, ◌∙◌, ap, subst, arith, filter, nat_le, nat_lt, ◌==◌, slice_range}
 use Rattle.std.specs.Prelude.{Contains, MatchBool, sum_by, if◌then◌else◌}
-use Rattle.std.specs.List.{AllByRecursion, list_any}
+use Rattle.std.specs.List.{AllByRecursion}
 use Rattle.std.proofs.Math.Nat.{zero-div}
 use Rattle.std.proofs.lemmas.Bool.{MatchBool-at_false}
 use Rattle.std.proofs.lemmas.Bool.Decides.{nat_tests}
 use Rattle.std.proofs.lemmas.List.Elements.{Contains-append_left, Contains-append_right}
-use Rattle.flash_pages.specs.Place.{Place, IsPlace}
+use Rattle.flash_pages.specs.Place.{Place}
 use Rattle.hpb_cdb.specs.declared.cdb.Cdb.{Cdb}
-use Rattle.hpb_cdb.specs.declared.cdb.Cdb.TheVariants.{TestReady, Read, Write, Capacity, Sync, HpbRead, ReadBuffer, Prefetch, InactOne, InactAll}
-use Rattle.upiu_wire.specs.declared.kind.Kind.{Kind}
+use Rattle.hpb_cdb.specs.declared.cdb.Cdb.TheVariants.{Write}
 use Rattle.upiu_wire.specs.declared.kind.Kind.TheVariants.{Response, DataIn, ReadyToTransfer}
 use Rattle.upiu_wire.specs.Upiu.{Upiu, IsConsistent}
 use Rattle.upiu_wire.specs.Written.{data_upiu, transfer_upiu, response_upiu}
 use Rattle.flat_unit.specs.Command.{is_write}
-use Rattle.flat_unit.specs.Contents.{Block, Shown, Leaving, answered, block_at, block_written, has_block, is_among, is_same, left_by, leaving_all, next_place, offset_in, seen_at, shown_at, shown_by_data, shown_by_kind, with_block, candidates}
+use Rattle.flat_unit.specs.Contents.{Block, Shown, Leaving, answered, block_at, block_written, is_among, is_same, leaving_all, next_place, offset_in, seen_at, shown_at, shown_by_kind, with_block, candidates}
 use Rattle.flat_unit.specs.History.{History}
-use Rattle.flat_unit.specs.Queue.{after_sent, with_asked, with_data, with_sent, without_tag}
+use Rattle.flat_unit.specs.Queue.{after_sent, with_asked, with_sent, without_tag}
 use Rattle.flat_unit.specs.Reply.{has_tag}
 use Rattle.flat_unit.specs.Sizes.{Sizes}
 use Rattle.flat_unit.specs.Stands.{Kept, First, HoldsAt, HasProgress, IsProgress, head_block, is_programmed, is_programmed_for}
 use Rattle.flat_unit.specs.Task.{Task}
-use Rattle.flat_unit.specs.Tasks.{IsAlone, IsUntouched, OthersWait}
+use Rattle.flat_unit.specs.Tasks.{IsAlone, IsUntouched}
 use Rattle.flat_unit.specs.Writes.{blocks_ended, blocks_of_head, blocks_of_write, whole_blocks}
 use Rattle.flat_unit.proofs.Moves.{Goes, fold_left}
 use Rattle.flat_unit.proofs.Queue.{same_tag, others_stay, none_has}
@@ -256,7 +255,7 @@ holds_block blocks b block o good is same =
     by_good false equal = Contains-append_right blocks (b ∷ []) block (0, omega arith, equal)
 
 -- a candidate that no GOOD replaces
-stays_block : (blocks : List Block) (block : Block) (o : Option Block) → Contains blocks block → Contains (with_block false blocks o) block
+pub stays_block : (blocks : List Block) (block : Block) (o : Option Block) → Contains blocks block → Contains (with_block false blocks o) block
 stays_block blocks block None held = held
 stays_block blocks block (Some b) held = Contains-append_left blocks (b ∷ []) block held
 

@@ -1,23 +1,21 @@
 -- What each kind of event asks of a device that stands at a history, so that it stands at it with that event.
-use Rattle.std.proofs.Common.{◌≡◌, ℕ, ◌+◌, ◌≤◌, List, [], ◌∷◌, Bool, Option, Some, None, refl, sym, ◌∙◌, ap, subst, drop, arith}
+use Rattle.std.proofs.Common.{◌≡◌, ℕ, ◌+◌, ◌≤◌, List, Bool, Option, sym, ◌∙◌, ap, subst, arith}
 use Rattle.std.specs.Prelude.{sum_by, fold}
-use Rattle.flash_pages.specs.declared.chip.ChipOp.{ChipOp}
 use Rattle.flash_pages.specs.Place.{Place, IsPlace}
-use Rattle.upiu_wire.specs.Upiu.{Upiu, IsConsistent, upiu_at, upiu_out}
+use Rattle.upiu_wire.specs.Upiu.{Upiu, IsConsistent, upiu_out}
 use Rattle.flat_unit.specs.declared.event.Event.{Event}
-use Rattle.flat_unit.specs.declared.event.Event.TheVariants.{Host, Device, Failed, Moved}
-use Rattle.flat_unit.specs.Causes.{Caused, EventHasCause, SendHasCause, code_in, sense_code}
+use Rattle.flat_unit.specs.declared.event.Event.TheVariants.{Device}
+use Rattle.flat_unit.specs.Causes.{EventHasCause, SendHasCause, code_in, sense_code}
 use Rattle.flat_unit.specs.Contents.{Block, Shown, Leaving, answered, leaving, left_by, shown, shown_by_kind, seen_at, candidates}
 use Rattle.flat_unit.specs.History.{History, ◌▹◌}
 use Rattle.flat_unit.specs.Queue.{after_sent, on_after, tasks_changed, tasks_after}
-use Rattle.flat_unit.specs.Reply.{reply_of, effects_of}
 use Rattle.flat_unit.specs.Sends.{MaySend}
 use Rattle.flat_unit.specs.Sizes.{Sizes}
-use Rattle.flat_unit.specs.Sound.{owed, IsCandidate, Sound}
+use Rattle.flat_unit.specs.Sound.{IsCandidate}
 use Rattle.flat_unit.specs.Stands.{Kept, First, HoldsAt, HasProgress, Stands}
 use Rattle.flat_unit.specs.Task.{Task}
-use Rattle.flat_unit.specs.Writes.{blocks_ended, blocks_new, blocks_of_head}
-use Rattle.flat_unit.proofs.Laws.{upiu_at-out, comes, owes_reply, owes_nothing, owed_comes, received_answered, received_kept, sent_sound}
+use Rattle.flat_unit.specs.Writes.{blocks_ended, blocks_of_head}
+use Rattle.flat_unit.proofs.Laws.{upiu_at-out, sent_sound}
 
 -- what a UPIU of the device does to these tasks
 pub device_changes : (s : Sizes) (on : Bool) (tasks : List Task) (v : Upiu) → IsConsistent v → tasks_changed s on tasks (Device (upiu_out v)) ≡ after_sent v v.kind tasks

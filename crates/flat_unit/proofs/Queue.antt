@@ -9,7 +9,7 @@ use Rattle.hpb_cdb.specs.Cdb.{IsCdb}
 use Rattle.hpb_cdb.specs.Read.{cdb_of}
 use Rattle.hpb_cdb.proofs.Reading.{is_cdb-cdb_of}
 use Rattle.upiu_wire.specs.declared.kind.Kind.{Kind}
-use Rattle.upiu_wire.specs.declared.kind.Kind.TheVariants.{NopOut, Command, DataOut, ManageRequest, QueryRequest, NopIn, Response, DataIn, ManageResponse, ReadyToTransfer, QueryResponse, Reject}
+use Rattle.upiu_wire.specs.declared.kind.Kind.TheVariants.{Command, DataOut, Response, DataIn, ReadyToTransfer}
 use Rattle.upiu_wire.specs.declared.fault.WireFault.{WireFault}
 use Rattle.upiu_wire.specs.WireFault.{wire_fault_of}
 use Rattle.upiu_wire.specs.Upiu.{Upiu, upiu_at}
@@ -18,7 +18,7 @@ use Rattle.flat_unit.specs.declared.event.Event.TheVariants.{Host, Device, Reset
 use Rattle.flat_unit.specs.Command.{command_of, is_hpb, needed}
 use Rattle.flat_unit.specs.History.{History}
 use Rattle.flat_unit.specs.Queue.{after_kept, after_reply, after_sent, change_head, change_head_with_tag, on_after, task_of, tasks_after, tasks_changed, with_asked, with_command, with_data, with_sent, without_tag}
-use Rattle.flat_unit.specs.Reply.{has_tag, reply_of, reply_by_kind, reply_by_fault, command_refusal, refusal_of_cdb, refusal_of_command}
+use Rattle.flat_unit.specs.Reply.{has_tag, reply_of, reply_by_kind, reply_by_fault, command_refusal, refusal_of_cdb}
 use Rattle.flat_unit.specs.Sizes.{Sizes, limits_of}
 use Rattle.flat_unit.specs.Task.{Task}
 use Rattle.flat_unit.specs.Tasks.{IsAlone, AreApart, IsUntouched, OthersWait, IsServed, IsQueue}

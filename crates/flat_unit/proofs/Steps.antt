@@ -1,41 +1,52 @@
 -- A device that stands at a history stands at it with the events of one more call.
-use Rattle.std.proofs.Common.{◌≡◌, ℕ, ◌+◌, ◌-◌, ◌*◌, ◌/◌, ◌≤◌, ◌<◌, ◌^◌, Bool, true, false, cond, not, ◌&&◌, ◌||◌, List, [], ◌∷◌, ◌++◌, length, Option, Some, None, Result, Ok, Err, refl, sym, ◌∙◌, ap, subst, arith, filter, drop, nat_le, nat_lt, ◌==◌, slice_range, get_or, set, inl, inr, length-append}
-use Rattle.std.specs.Prelude.{Contains, MatchBool, sum_by, min, if◌then◌else◌, slice_set, ◌⊎◌}
-use Rattle.std.specs.List.{AllByRecursion, list_any}
-use Rattle.std.proofs.lemmas.Bool.{MatchBool-at_false}
+use Rattle.std.proofs.Common.{◌≡◌, ℕ, ◌+◌, ◌-◌, ◌*◌, ◌≤◌, ◌<◌, ◌^◌, Bool, true, false, ◌&&◌, List, [], ◌∷◌, ◌++◌, length, Option, Some, None, Ok, refl, sym, ◌∙◌, ap, subst, arith, drop, nat_le, nat_lt, ◌==◌, slice_range, set, inl, inr, length-append}
+use Rattle.std.specs.Prelude.{Contains, MatchBool, fold, if◌then◌else◌, slice_set}
+use Rattle.std.specs.List.{list_any}
+use Rattle.std.proofs.lemmas.Bool.{MatchBool-at_false, eq-eqb, eqb-true, leb-true, false≢true}
 use Rattle.std.proofs.lemmas.Bool.Decides.{nat_tests}
 use Rattle.std.proofs.lemmas.List.{get_or-set_same, get_or-set_other}
 use Rattle.flash_pages.specs.declared.chip.ChipOp.{ChipOp}
 use Rattle.flash_pages.specs.declared.chip.ChipOp.TheVariants.{Read as ReadPage}
 use Rattle.flash_pages.specs.Place.{Place, IsPlace, index_of}
 use Rattle.hpb_cdb.specs.declared.cdb.Cdb.{Cdb}
-use Rattle.hpb_cdb.specs.declared.cdb.Cdb.TheVariants.{TestReady, Read, Write, Capacity, Sync, HpbRead, ReadBuffer, Prefetch, InactOne, InactAll}
+use Rattle.hpb_cdb.specs.declared.cdb.Cdb.TheVariants.{Read, Write, Capacity, HpbRead, ReadBuffer}
+use Rattle.hpb_cdb.specs.Cdb.{is_in_unit}
 use Rattle.hpb_sense.specs.declared.sense.FixedSense.{FixedSense}
 use Rattle.hpb_sense.specs.Sense.{fixed_out}
-use Rattle.upiu_wire.specs.declared.kind.Kind.{Kind}
-use Rattle.upiu_wire.specs.declared.kind.Kind.TheVariants.{Command, DataOut, Response, DataIn, ReadyToTransfer}
+use Rattle.upiu_wire.specs.declared.kind.Kind.TheVariants.{Command, DataOut, NopIn}
 use Rattle.upiu_wire.specs.Upiu.{Upiu, IsConsistent, upiu_at, upiu_out}
-use Rattle.upiu_wire.specs.Written.{data_upiu, transfer_upiu, response_upiu}
+use Rattle.upiu_wire.specs.Written.{blank_upiu, reject_upiu, response_upiu}
 use Rattle.flat_unit.specs.declared.event.Event.{Event}
 use Rattle.flat_unit.specs.declared.event.Event.TheVariants.{Host, Device, Reset, Moved, Failed}
-use Rattle.flat_unit.specs.Causes.{HasCauseFor, MayBeFull, SendHasCause, EventHasCause, Caused, last_number}
-use Rattle.flat_unit.specs.Command.{is_write, bytes_given, bytes_taken, needed, command_of}
-use Rattle.flat_unit.specs.Contents.{Block, Shown, Leaving, block_at, block_written, has_block, is_among, is_same, left_by, leaving, leaving_all, next_place, offset_in, seen_at, shown_at, shown_by_kind, with_block, candidates}
+use Rattle.flat_unit.specs.Causes.{HasCauseFor, MayBeFull, EventHasCause, last_number}
+use Rattle.flat_unit.specs.Command.{is_write, bytes_taken, needed, command_of}
+use Rattle.flat_unit.specs.Contents.{Block, Shown, Leaving, block_at, block_written, is_among, is_same, leaving_all, next_place, offset_in, shown_at, candidates}
 use Rattle.flat_unit.specs.History.{History, ◌▹◌}
-use Rattle.flat_unit.specs.Queue.{after_kept, on_after, task_of, tasks_changed, tasks_after, with_asked, with_command, with_data, with_sent}
+use Rattle.flat_unit.specs.Queue.{after_reply, after_sent, on_after, task_of, tasks_changed, tasks_after, with_asked, with_command, with_data, with_sent}
 use Rattle.flat_unit.specs.Reply.{check, effects_of, has_tag, reply_of}
-use Rattle.flat_unit.specs.Sends.{Answer, Data, Ask, Good, Check, Allows, IsPiece, MaySend, MayEndWith, asked_at_once, upiu_of}
-use Rattle.flat_unit.specs.Sizes.{Sizes}
-use Rattle.flat_unit.specs.Sound.{owed, IsCandidate, MayCome, Sound}
-use Rattle.flat_unit.specs.Stands.{Kept, First, Holds, HoldsAt, HasProgress, IsProgress, Stands, head_block, is_programmed, is_programmed_for}
+use Rattle.flat_unit.specs.Sends.{Answer, Data, Ask, Good, Check, Allows, IsPiece, asked_at_once, upiu_of}
+use Rattle.flat_unit.specs.Senses.{wrong_data}
+use Rattle.flat_unit.specs.Sizes.{Sizes, limits_of}
+use Rattle.flat_unit.specs.Sound.{IsCandidate}
+use Rattle.flat_unit.specs.Stands.{Kept, First, HoldsAt, HasProgress, IsProgress, Stands, head_block, is_programmed, is_programmed_for}
 use Rattle.flat_unit.specs.Task.{Task}
-use Rattle.flat_unit.specs.Tasks.{IsAlone, IsQueue, IsServed, IsUntouched, OthersWait}
-use Rattle.flat_unit.specs.Writes.{blocks_come, blocks_ended, blocks_good, blocks_of_head, moves, whole_blocks}
-use Rattle.flat_unit.proofs.Goes.{IsHarmless, Leaves, data_shows, goes_asked, goes_data, goes_ended, goes_harmless, goes_shown, leaves_cut, leaves_good, leaves_no_write, left_with, no_blocks, no_progress, none_programmed, with_tasks}
-use Rattle.flat_unit.proofs.Laws.{comes, data-consistent, kept_of_kind, owes_reply, ready-consistent, received_answered, received_kept, response-consistent}
+use Rattle.flat_unit.specs.Tasks.{IsQueue, IsServed}
+use Rattle.flat_unit.specs.Writes.{blocks_ended, blocks_of_head, whole_blocks}
+use Rattle.flat_unit.proofs.Goes.{IsHarmless, data_shows, goes_asked, goes_data, goes_ended, goes_harmless, goes_shown, leaves_cut, leaves_good, leaves_no_write, stays_block, left_with, no_progress, none_programmed, with_tasks}
+use Rattle.flat_unit.proofs.Laws.{comes, data-consistent, kept_of_kind, owes_reply, ready-consistent, received_answered, received_kept, reject-consistent, response-consistent}
 use Rattle.flat_unit.proofs.Moves.{Goes, device_changes, ends_on, fold_left, holds_on, stands_sent}
 use Rattle.flat_unit.proofs.Numbers.{more_blocks, range-append, same_lba, same_lun, within_bytes, within_luns}
-use Rattle.flat_unit.proofs.Queue.{queue_after, same_tag}
+use Rattle.flat_unit.proofs.Queue.{none_has, others_stay, queue_after}
+
+-- the next block of a write is programmed at its place
+abbrev pub programmed_more : Sizes → List Task → Task → ℕ → Kept → Kept
+programmed_more s tasks task lba kept = record {
+  tasks = tasks;
+  on = kept.on;
+  unit = slice_set kept.unit (index_of s.units (record { lun = task.lun; lba = lba + kept.programmed })) (slice_range task.come (s.block * kept.programmed) (s.block * kept.programmed + s.block));
+  programmed = kept.programmed + 1;
+  next = kept.next + 1;
+}
 
 -- a device that was just made stands at the empty history
 pub stands_begun : (s : Sizes) (unit : List Block) (next : ℕ)
@@ -59,16 +70,18 @@ stands_with s first kept e tasks is at = subst (λ (ts : List Task). Stands s fi
 pub queue_of : (s : Sizes) (first : First) (kept : Kept) (e : History) → Stands s first kept e → IsQueue s kept.tasks
 queue_of s first kept e at = subst (IsQueue s) at.keeps (queue_after s e)
 
+-- what is programmed has come
+progress_within : (s : Sizes) (programmed : ℕ) (tasks : List Task) → HasProgress s programmed tasks → programmed ≤ blocks_of_head s tasks
+progress_within s programmed [] is = omega arith
+progress_within s programmed (task ∷ _) is = by_command task.command task is
+  where
+    by_command : (command : Cdb) (task : Task) → IsProgress s programmed task command → programmed ≤ blocks_of_head s (task ∷ [])
+    by_command (Write lba n) task is = is.1
+    by_command _ task is = omega arith
+
 -- a next number at the end is a cause
 pub full_of : (s : Sizes) (first : First) (kept : Kept) (e : History) → Stands s first kept e → last_number ≤ kept.next → MayBeFull s first.next e
-full_of s first kept e at ended = let e = progress_within kept.tasks at.progress in omega (arith, at.at_most, e)
-  where
-    by_command : (command : Cdb) (task : Task) → IsProgress s kept.programmed task command → kept.programmed ≤ blocks_of_head s (task ∷ []) + 0
-    by_command (Write lba n) task is = omega (arith, is.1)
-    by_command _ task is = omega arith
-    progress_within : (tasks : List Task) → HasProgress s kept.programmed tasks → kept.programmed ≤ blocks_of_head s tasks
-    progress_within [] is = omega arith
-    progress_within (task ∷ _) is = omega (arith, by_command task.command task is)
+full_of s first kept e at ended = let e = progress_within s kept.programmed kept.tasks at.progress in omega (arith, at.at_most, e)
 
 -- each ending's cause
 pub cause_read : (s : Sizes) (foreign : Type 0) (next : ℕ) (e : History) → HasCauseFor s foreign next (e ▹ Failed ReadPage) 0x11
@@ -228,3 +241,286 @@ stands_moved s first kept e lun lba at = record {
   sound = record { so_far = comes s first.unit e (Moved lun lba) at.sound tt; nothing_owed = ap (λ (due : List Event). drop 1 due) at.sound.nothing_owed };
   caused = (at.caused, tt);
 }
+
+-- the host's bytes are kept, and these tasks with them
+host_kept : (s : Sizes) (first : First) (kept : Kept) (e : History) (bytes : List ℕ) (now : List Task)
+    → reply_of s kept.on kept.tasks bytes ≡ None → tasks_changed s kept.on kept.tasks (Host bytes) ≡ now
+    → HasProgress s kept.programmed now
+    → ((p : Place) → HoldsAt s kept (candidates s first.unit e p) p → HoldsAt s (with_tasks now kept) (candidates s first.unit e p) p)
+    → Stands s first kept e → Stands s first (with_tasks now kept) (e ▹ Host bytes)
+host_kept s first kept e bytes now silent is progress holds at =
+    let same_reply : reply_of s (on_after e) (tasks_after s e) bytes ≡ None =
+    ap (λ (on : Bool). reply_of s on (tasks_after s e) bytes) at.switch ∙ ap (λ (ts : List Task). reply_of s kept.on ts bytes) at.keeps ∙ silent in
+    let same_tasks : tasks_changed s (on_after e) (tasks_after s e) (Host bytes) ≡ now =
+    ap (λ (on : Bool). tasks_changed s on (tasks_after s e) (Host bytes)) at.switch ∙ ap (λ (ts : List Task). tasks_changed s kept.on ts (Host bytes)) at.keeps ∙ is in
+    let after : blocks_of_head s (tasks_changed s (on_after e) (tasks_after s e) (Host bytes)) ≡ blocks_of_head s now = ap (blocks_of_head s) same_tasks in
+    let before : blocks_of_head s (tasks_after s e) ≡ blocks_of_head s kept.tasks = ap (blocks_of_head s) at.keeps in
+    record {
+      keeps = same_tasks;
+      switch = at.switch;
+      progress = progress;
+      holds = λ p place. holds p (at.holds p place);
+      at_least = omega (arith, at.at_least);
+      at_most = omega (arith, at.at_most, after, before);
+      sound = received_kept s first.unit e bytes at.sound same_reply;
+      caused = (at.caused, tt);
+    }
+
+-- a command is kept
+pub stands_accepted : (s : Sizes) (first : First) (kept : Kept) (e : History) (bytes : List ℕ) (command : Cdb)
+    → reply_of s kept.on kept.tasks bytes ≡ None → (upiu_at bytes).kind ≡ Command → command_of s (upiu_at bytes).cdb ≡ Ok command
+    → Stands s first kept e → Stands s first (with_tasks (kept.tasks ++ task_of (upiu_at bytes) command ∷ []) kept) (e ▹ Host bytes)
+stands_accepted s first kept e bytes command silent kind reads at =
+    host_kept s first kept e bytes (kept.tasks ++ task_of (upiu_at bytes) command ∷ []) silent
+    (kept_of_kind s kept.on kept.tasks bytes Command kind silent ∙ ap (with_command kept.tasks (upiu_at bytes)) reads)
+    (progress_by kept.tasks at.progress)
+    (λ p held. holds_by p kept.tasks at.progress held)
+    at
+  where
+    progress_by : (tasks : List Task) → HasProgress s kept.programmed tasks → HasProgress s kept.programmed (tasks ++ task_of (upiu_at bytes) command ∷ [])
+    progress_by [] is = subst (λ (n : ℕ). HasProgress s n (task_of (upiu_at bytes) command ∷ [])) (sym is) (no_progress s (task_of (upiu_at bytes) command ∷ []))
+    progress_by (task ∷ tasks) is = is
+    holds_by : (p : Place) (tasks : List Task) → HasProgress s kept.programmed tasks
+        → HoldsAt s (with_tasks tasks kept) (candidates s first.unit e p) p → HoldsAt s (with_tasks (tasks ++ task_of (upiu_at bytes) command ∷ []) kept) (candidates s first.unit e p) p
+    holds_by p [] is held =
+        let none : is_programmed kept.programmed (task_of (upiu_at bytes) command ∷ []) p ≡ false = ap (λ (n : ℕ). is_programmed n (task_of (upiu_at bytes) command ∷ []) p) is ∙ none_programmed (task_of (upiu_at bytes) command ∷ []) p in
+        subst (λ (b : Bool). MatchBool b (head_block s (task_of (upiu_at bytes) command ∷ []) p ≡ Some (block_at s kept.unit p)) (Contains (candidates s first.unit e p) (block_at s kept.unit p))) (sym none) held
+    holds_by p (task ∷ tasks) is held = held
+
+-- data that come change no block before them
+whole_grows : (s : Sizes) (command : Cdb) (come more : List ℕ) → whole_blocks s command come ≤ whole_blocks s command (come ++ more)
+whole_grows s (Write lba n) come more = more_blocks (length come) (length (come ++ more)) s.block (let e = length-append come more in omega arith)
+whole_grows s _ come more = omega arith
+
+progress_grows : (s : Sizes) (programmed : ℕ) (command : Cdb) (task : Task) (more : List ℕ) → IsProgress s programmed task command → IsProgress s programmed (with_data more task) command
+progress_grows s programmed (Write lba n) task more is = let e = whole_grows s task.command task.come more in (is.0, omega (arith, is.1, e))
+progress_grows s programmed _ task more is = is
+
+pub written_grows : (s : Sizes) (command : Cdb) (task : Task) (more : List ℕ) (p : Place) (block : Block) → block_written s task command p ≡ Some block → block_written s (with_data more task) command p ≡ Some block
+written_grows s (Write lba n) task more p block is = by_tests (is_among task.lun lba n p) (nat_le end (length task.come)) (nat_le end (length (task.come ++ more))) refl refl is
+  where
+    start : ℕ
+    start = offset_in s lba p
+    end : ℕ
+    end = offset_in s lba p + s.block
+    by_tests : (a b c : Bool) → nat_le (offset_in s lba p + s.block) (length task.come) ≡ b → nat_le (offset_in s lba p + s.block) (length (task.come ++ more)) ≡ c
+        → (if a && b then Some (slice_range task.come (offset_in s lba p) (offset_in s lba p + s.block)) else None) ≡ Some block
+        → (if a && c then Some (slice_range (task.come ++ more) (offset_in s lba p) (offset_in s lba p + s.block)) else None) ≡ Some block
+    by_tests true true true before after is =
+        let inside : offset_in s lba p + s.block ≤ length task.come = grind (arith, nat_tests) in
+        ap (λ (l : List ℕ). Some l) (range-append task.come more (offset_in s lba p) (offset_in s lba p + s.block) (omega arith) inside) ∙ is
+    by_tests true true false before after is =
+        let inside : offset_in s lba p + s.block ≤ length task.come = grind (arith, nat_tests) in
+        let outside : length (task.come ++ more) < offset_in s lba p + s.block = grind (arith, nat_tests) in
+        let e = length-append task.come more in
+        absurd (omega arith)
+    by_tests true false c before after is = cc
+    by_tests false b c before after is = cc
+written_grows s _ task more p block is = cc
+
+holds_grow : (P : Type 0) (s : Sizes) (b : Bool) (command : Cdb) (task : Task) (more : List ℕ) (p : Place) (block : Block)
+    → MatchBool b (block_written s task command p ≡ Some block) P → MatchBool b (block_written s (with_data more task) command p ≡ Some block) P
+holds_grow P s true command task more p block held = written_grows s command task more p block held
+holds_grow P s false command task more p block held = held
+
+-- DATA OUT is taken
+pub stands_taken : (s : Sizes) (first : First) (kept : Kept) (e : History) (bytes : List ℕ) (task : Task) (others : List Task)
+    → reply_of s kept.on (task ∷ others) bytes ≡ None → (upiu_at bytes).kind ≡ DataOut
+    → Stands s first (with_tasks (task ∷ others) kept) e → Stands s first (with_tasks (with_data (upiu_at bytes).segment task ∷ others) kept) (e ▹ Host bytes)
+stands_taken s first kept e bytes task others silent kind at =
+    host_kept s first (with_tasks (task ∷ others) kept) e bytes (with_data (upiu_at bytes).segment task ∷ others) silent
+    (kept_of_kind s kept.on (task ∷ others) bytes DataOut kind silent)
+    (progress_grows s kept.programmed task.command task (upiu_at bytes).segment at.progress)
+    (λ p held. holds_grow (Contains (candidates s first.unit e p) (block_at s kept.unit p)) s (is_programmed kept.programmed (task ∷ others) p) task.command task (upiu_at bytes).segment p (block_at s kept.unit p) held)
+    at
+
+-- a reset drops all tasks
+pub stands_reset : (s : Sizes) (first : First) (kept : Kept) (e : History) → Stands s first kept e
+    → Stands s first (record kept { tasks = []; on = true; programmed = 0 }) (e ▹ Reset)
+stands_reset s first kept e at =
+    let none = none_good (tasks_after s e) 0 in
+    let within = progress_within s kept.programmed kept.tasks at.progress in
+    record {
+      keeps = refl;
+      switch = refl;
+      progress = refl;
+      holds = λ p place.
+          subst (λ (ts : List Task). Contains (fold_left s (candidates s first.unit e p) (leaving_all false ts) p) (block_at s kept.unit p)) (sym at.keeps)
+          (reset_holds p kept.tasks at.progress (at.holds p place));
+      at_least = omega (arith, at.at_least, none);
+      at_most = omega (arith, at.at_most, within);
+      sound = record { so_far = comes s first.unit e Reset at.sound tt; nothing_owed = ap (λ (due : List Event). drop 1 due) at.sound.nothing_owed };
+      caused = (at.caused, tt);
+    }
+  where
+    none_good : (tasks : List Task) (a : ℕ) → fold (λ (n : ℕ) (l : Leaving). n + blocks_ended l) a (leaving_all false tasks) ≡ a
+    none_good [] a = refl
+    none_good (task ∷ tasks) a = none_good tasks (a + 0) ∙ omega arith
+    fold_stays : (p : Place) (block : Block) (tasks : List Task) (blocks : List Block) → Contains blocks block → Contains (fold_left s blocks (leaving_all false tasks) p) block
+    fold_stays p block [] blocks held = held
+    fold_stays p block (task ∷ tasks) blocks held = fold_stays p block tasks _ (stays_block blocks block (block_written s task task.command p) held)
+    reset_holds : (p : Place) (tasks : List Task) → HasProgress s kept.programmed tasks → HoldsAt s (with_tasks tasks kept) (candidates s first.unit e p) p
+        → Contains (fold_left s (candidates s first.unit e p) (leaving_all false tasks) p) (block_at s kept.unit p)
+    reset_holds p [] progress held = held
+    reset_holds p (task ∷ tasks) progress held = fold_stays p (block_at s kept.unit p) tasks _ ((leaves_cut s first kept e task tasks progress).held p held)
+
+-- the host's bytes are answered at once
+pub stands_replied : (s : Sizes) (first : First) (kept now : Kept) (e : History) (bytes : List ℕ) (v : Upiu)
+    → reply_of s kept.on kept.tasks bytes ≡ Some v → effects_of s kept.on kept.tasks bytes ≡ [] → Goes s first kept now e v
+    → Stands s first kept e → Stands s first now (e ▹ Host bytes ▹ Device (upiu_out v))
+stands_replied s first kept now e bytes v is no_effects goes at =
+    let reply : reply_of s (on_after e) (tasks_after s e) bytes ≡ Some v =
+    ap (λ (on : Bool). reply_of s on (tasks_after s e) bytes) at.switch ∙ ap (λ (ts : List Task). reply_of s kept.on ts bytes) at.keeps ∙ is in
+    let none : effects_of s (on_after e) (tasks_after s e) bytes ≡ [] =
+    ap (λ (on : Bool). effects_of s on (tasks_after s e) bytes) at.switch ∙ ap (λ (ts : List Task). effects_of s kept.on ts bytes) at.keeps ∙ no_effects in
+    let mid : tasks_after s (e ▹ Host bytes) ≡ kept.tasks = ap (after_reply s (tasks_after s e) (upiu_at bytes)) reply ∙ at.keeps in
+    let goes_on : Goes s first kept now (e ▹ Host bytes) v = record { consistent = goes.consistent; tasks = goes.tasks; switch = goes.switch; progress = goes.progress; holds = goes.holds; at_least = goes.at_least; at_most = goes.at_most } in
+    let ended = ends_on s first kept now (e ▹ Host bytes) v goes_on (tasks_after s (e ▹ Host bytes)) mid in
+    record {
+      keeps = device_changes s (on_after e) (tasks_after s (e ▹ Host bytes)) v goes.consistent ∙ ap (λ (t : List Task). after_sent v v.kind t) mid ∙ goes.tasks;
+      switch = at.switch ∙ goes.switch;
+      progress = goes.progress;
+      holds = λ p place. holds_on s first kept now (e ▹ Host bytes) v p goes_on place (tasks_after s (e ▹ Host bytes)) mid (at.holds p place);
+      at_least = omega (arith, ended, at.at_least, goes.at_least);
+      at_most = omega (arith, at.at_most, goes.at_most);
+      sound = received_answered s first.unit e bytes v at.sound reply none;
+      caused = ((at.caused, tt), subst (λ (due : List Event). EventHasCause s ⊥ first.next (e ▹ Host bytes) (Device (upiu_out v)) due) (sym (owes_reply s e bytes v reply)) tt);
+    }
+
+-- a reply that ends no task leaves all as it is
+pub stands_answered : (s : Sizes) (first : First) (kept : Kept) (e : History) (bytes : List ℕ) (v : Upiu)
+    → reply_of s kept.on kept.tasks bytes ≡ Some v → effects_of s kept.on kept.tasks bytes ≡ [] → IsHarmless s kept.tasks v
+    → Stands s first kept e → Stands s first kept (e ▹ Host bytes ▹ Device (upiu_out v))
+stands_answered s first kept e bytes v is no_effects harmless at =
+    stands_replied s first kept kept e bytes v is no_effects (goes_harmless s first kept e v harmless at.progress) at
+
+-- data that weren't asked for end the first task
+pub stands_refused : (s : Sizes) (first : First) (kept : Kept) (e : History) (bytes : List ℕ) (task : Task) (others : List Task) (residual : ℕ)
+    → reply_of s kept.on (task ∷ others) bytes ≡ Some (check task.lun task.tag residual wrong_data) → effects_of s kept.on (task ∷ others) bytes ≡ []
+    → residual < 2 ^ 32
+    → Stands s first (with_tasks (task ∷ others) kept) e
+    → Stands s first (left_with others kept) (e ▹ Host bytes ▹ Device (upiu_out (check task.lun task.tag residual wrong_data)))
+stands_refused s first kept e bytes task others residual is no_effects fits at =
+    let queue = queue_of s first (with_tasks (task ∷ others) kept) e at in
+    stands_replied s first (with_tasks (task ∷ others) kept) (left_with others kept) e bytes (check task.lun task.tag residual wrong_data) is no_effects
+    (goes_ended s first kept e task others 2 residual (fixed_out wrong_data) (response-consistent task.lun task.tag 2 residual (fixed_out wrong_data) fits (omega arith)) queue.apart.0 queue.others_wait (leaves_cut s first kept e task others at.progress))
+    at
+
+-- a reply that ends no task
+pub reject_harmless : (s : Sizes) (tasks : List Task) (lun tag reason : ℕ) → reason < 256 → IsHarmless s tasks (reject_upiu lun tag reason)
+reject_harmless s tasks lun tag reason fits = record { consistent = reject-consistent lun tag reason fits; tasks_stay = refl; none_leaves = refl; none_shown = refl }
+
+pub nop_harmless : (s : Sizes) (tasks : List Task) (tag : ℕ) → IsHarmless s tasks (blank_upiu NopIn 0 tag)
+nop_harmless s tasks tag = record {
+  consistent = record { first = omega arith; cdb = refl; count = refl; value = refl; segment = omega arith };
+  tasks_stay = refl;
+  none_leaves = refl;
+  none_shown = refl;
+}
+
+pub response_harmless : (s : Sizes) (tasks : List Task) (lun tag status residual : ℕ) (segment : List ℕ) → residual < 2 ^ 32 → length segment < 2 ^ 16
+    → list_any (has_tag tag) tasks ≡ false → IsHarmless s tasks (response_upiu lun tag status residual segment)
+response_harmless s tasks lun tag status residual segment residual_fits segment_fits none = record {
+  consistent = response-consistent lun tag status residual segment residual_fits segment_fits;
+  tasks_stay = others_stay tag tasks none;
+  none_leaves = ap (leaving_all (status == 0)) (none_has tag tasks none);
+  none_shown = refl;
+}
+
+-- one more block of a write, and the other places
+same_place : (p q : Place) → is_same p q ≡ true → p ≡ q
+same_place p q true_test =
+    let lun : p.lun ≡ q.lun = grind (arith, nat_tests) in
+    let lba : p.lba ≡ q.lba = grind (arith, nat_tests) in
+    λ i. record { lun = lun i; lba = lba i }
+
+other_place : (lun lba : ℕ) (q : Place) → is_same (record { lun = lun; lba = lba }) q ≡ false → lun ≡ q.lun → lba ≡ q.lba → ⊥
+other_place lun lba q is one two = false≢true (sym is ∙ (ap (λ (b : Bool). b && (lba == q.lba)) (eq-eqb lun q.lun one) ∙ eq-eqb lba q.lba two))
+
+among_next : (lun lba k : ℕ) (q : Place) → is_same (record { lun = lun; lba = lba + k }) q ≡ false → is_among lun lba (k + 1) q ≡ is_among lun lba k q
+among_next lun lba k q is = by_tests (lun == q.lun) (nat_le lba q.lba) (nat_lt q.lba (lba + (k + 1))) (nat_lt q.lba (lba + k)) refl refl refl
+  where
+    by_tests : (a b c d : Bool) → (lun == q.lun) ≡ a → nat_lt q.lba (lba + (k + 1)) ≡ c → nat_lt q.lba (lba + k) ≡ d → (a && (b && c)) ≡ (a && (b && d))
+    by_tests false b c d at_lun more less = refl
+    by_tests true false c d at_lun more less = refl
+    by_tests true true true true at_lun more less = refl
+    by_tests true true false false at_lun more less = refl
+    by_tests true true true false at_lun more less =
+        let here : lba + k ≡ q.lba = grind (arith, nat_tests) in
+        absurd (other_place lun (lba + k) q is (eqb-true lun q.lun at_lun) here)
+    by_tests true true false true at_lun more less = absurd (grind (arith, nat_tests))
+
+among_last : (lun lba k : ℕ) → is_among lun lba (k + 1) (record { lun = lun; lba = lba + k }) ≡ true
+among_last lun lba k = grind (arith, nat_tests)
+
+at_true : {b : Bool} {P : Type 0} (Q : Type 0) → b ≡ true → P → MatchBool b P Q
+at_true {b} {P} Q is p = subst (λ (c : Bool). MatchBool c P Q) (sym is) p
+
+-- the block of a write at its place
+written_here : (s : Sizes) (task : Task) (lba n k : ℕ) → k < n → s.block * k + s.block ≤ length task.come
+    → block_written s task (Write lba n) (record { lun = task.lun; lba = lba + k }) ≡ Some (slice_range task.come (s.block * k) (s.block * k + s.block))
+written_here s task lba n k more bytes =
+    let among : is_among task.lun lba n (record { lun = task.lun; lba = lba + k }) ≡ true = grind (arith, nat_tests) in
+    let inside : nat_le (s.block * k + s.block) (length task.come) ≡ true = grind (arith, nat_tests) in
+    let here : lba + k - lba ≡ k = omega arith in
+    subst (λ (m : ℕ). (if is_among task.lun lba n (record { lun = task.lun; lba = lba + k }) && nat_le (s.block * m + s.block) (length task.come) then Some (slice_range task.come (s.block * m) (s.block * m + s.block)) else None) ≡ Some (slice_range task.come (s.block * k) (s.block * k + s.block))) (sym here)
+    (ap (λ (b : Bool). if b && nat_le (s.block * k + s.block) (length task.come) then Some (slice_range task.come (s.block * k) (s.block * k + s.block)) else None) among
+    ∙ ap (λ (b : Bool). if b then Some (slice_range task.come (s.block * k) (s.block * k + s.block)) else None) inside)
+
+-- where one more block of a write is programmed, each place holds what it must
+programmed_holds : (s : Sizes) (task : Task) (lba n k : ℕ) (unit allowed : List Block) (q : Place) (b : Bool) → is_same (record { lun = task.lun; lba = lba + k }) q ≡ b
+    → k < n → length unit ≡ s.luns * s.units → IsPlace s.luns s.units q → IsPlace s.luns s.units (record { lun = task.lun; lba = lba + k }) → s.block * k + s.block ≤ length task.come
+    → MatchBool (is_among task.lun lba k q) (block_written s task (Write lba n) q ≡ Some (block_at s unit q)) (Contains allowed (block_at s unit q))
+    → MatchBool (is_among task.lun lba (k + 1) q)
+        (block_written s task (Write lba n) q ≡ Some (block_at s (slice_set unit (index_of s.units (record { lun = task.lun; lba = lba + k })) (slice_range task.come (s.block * k) (s.block * k + s.block))) q))
+        (Contains allowed (block_at s (slice_set unit (index_of s.units (record { lun = task.lun; lba = lba + k })) (slice_range task.come (s.block * k) (s.block * k + s.block))) q))
+programmed_holds s task lba n k unit allowed q true same more whole is_place here bytes held =
+    let index : ℕ = task.lun * s.units + (lba + k) in
+    let block : Block = slice_range task.come (s.block * k) (s.block * k + s.block) in
+    let fits : index < length unit = let e = within_luns task.lun s.luns s.units (lba + k) here.lun here.lba in omega arith in
+    subst (λ (p : Place). MatchBool (is_among task.lun lba (k + 1) p) (block_written s task (Write lba n) p ≡ Some (block_at s (set unit index block) p)) (Contains allowed (block_at s (set unit index block) p)))
+    (same_place (record { lun = task.lun; lba = lba + k }) q same)
+    (at_true _ (among_last task.lun lba k)
+    (written_here s task lba n k more bytes ∙ ap (λ (x : Block). Some x) (sym (get_or-set_same unit index block [] fits))))
+programmed_holds s task lba n k unit allowed q false same more whole is_place here bytes held =
+    let index : ℕ = task.lun * s.units + (lba + k) in
+    let block : Block = slice_range task.come (s.block * k) (s.block * k + s.block) in
+    let apart : (q.lun * s.units + q.lba ≡ index → ⊥) = λ e.
+        let one = same_lun q.lun task.lun s.units q.lba (lba + k) is_place.lba here.lba e in
+        other_place task.lun (lba + k) q same (sym one) (sym (same_lba q.lun task.lun s.units q.lba (lba + k) one e)) in
+    let stays : block_at s (set unit index block) q ≡ block_at s unit q = get_or-set_other unit index (q.lun * s.units + q.lba) block [] apart in
+    subst (λ (b : Bool). MatchBool b (block_written s task (Write lba n) q ≡ Some (block_at s (set unit index block) q)) (Contains allowed (block_at s (set unit index block) q))) (sym (among_next task.lun lba k q same))
+    (subst (λ (x : Block). MatchBool (is_among task.lun lba k q) (block_written s task (Write lba n) q ≡ Some x) (Contains allowed x)) (sym stays) held)
+
+-- a block of the first task is programmed, under the next number
+pub stands_programmed : (s : Sizes) (first : First) (kept : Kept) (e : History) (task : Task) (others : List Task) (lba n : ℕ)
+    → task.command ≡ Write lba n → kept.programmed < n → kept.programmed < blocks_of_head s (task ∷ [])
+    → length kept.unit ≡ s.luns * s.units
+    → Stands s first (with_tasks (task ∷ others) kept) e
+    → Stands s first (programmed_more s (task ∷ others) task lba kept) e
+stands_programmed s first kept e task others lba n is more come whole at =
+    let queue = queue_of s first (with_tasks (task ∷ others) kept) e at in
+    let range : is_in_unit (limits_of s) (Write lba n) ≡ true = ap (is_in_unit (limits_of s)) (sym is) ∙ queue.served.0.range in
+    let within : lba + n ≤ s.units = leb-true (lba + n) s.units range in
+    let here : IsPlace s.luns s.units place = record { lun = queue.served.0.lun; lba = omega arith } in
+    let bytes : s.block * k + s.block ≤ length task.come = within_bytes (length task.come) k s.block (subst (λ (c : Cdb). k < whole_blocks s c task.come) is come) in
+    record {
+      keeps = at.keeps;
+      switch = at.switch;
+      progress = subst (λ (c : Cdb). IsProgress s (k + 1) task c) (sym is) (omega arith, omega arith);
+      holds = λ q is_place.
+          subst (λ (c : Cdb). MatchBool (is_programmed_for (k + 1) task c q) (block_written s task c q ≡ Some (block_at s now.unit q)) (Contains (candidates s first.unit e q) (block_at s now.unit q))) (sym is)
+          (programmed_holds s task lba n k kept.unit (candidates s first.unit e q) q (is_same place q) refl more whole is_place here bytes
+          (subst (λ (c : Cdb). MatchBool (is_programmed_for k task c q) (block_written s task c q ≡ Some (block_at s kept.unit q)) (Contains (candidates s first.unit e q) (block_at s kept.unit q))) is (at.holds q is_place)));
+      at_least = omega (arith, at.at_least);
+      at_most = omega (arith, at.at_most);
+      sound = at.sound;
+      caused = at.caused;
+    }
+  where
+    k : ℕ
+    k = kept.programmed
+    place : Place
+    place = record { lun = task.lun; lba = lba + kept.programmed }
+    now : Kept
+    now = programmed_more s (task ∷ others) task lba kept

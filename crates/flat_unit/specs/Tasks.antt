@@ -1,5 +1,5 @@
 -- What holds of the tasks that a device keeps at any moment.
-use Rattle.std.specs.Prelude.{◌≡◌, ◌<◌, ◌≤◌, ℕ, false, true, List, [], ◌∷◌, ◌++◌}
+use Rattle.std.specs.Prelude.{◌≡◌, ◌<◌, ◌≤◌, false, true, List, [], ◌∷◌}
 use Rattle.std.specs.List.{AllByRecursion, list_any}
 use Rattle.hpb_cdb.specs.Cdb.{has_good_fields, is_in_unit}
 use Rattle.flat_unit.specs.Command.{needed}

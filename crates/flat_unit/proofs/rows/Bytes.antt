@@ -1,8 +1,6 @@
 -- UPIUs of the worked rows, as bytes.
-use Rattle.std.proofs.Common.{ℕ, true, List, [], ◌∷◌, ◌++◌, replicate}
+use Rattle.std.proofs.Common.{ℕ, true, List, [], ◌∷◌, replicate}
 use Rattle.flash_pages.specs.Place.{Place}
-use Rattle.flat_unit.specs.declared.event.Event.{Event}
-use Rattle.flat_unit.specs.declared.event.Event.TheVariants.{Host, Device}
 use Rattle.flat_unit.specs.Contents.{Block}
 use Rattle.flat_unit.specs.Sizes.{Sizes}
 

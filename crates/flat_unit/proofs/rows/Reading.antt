@@ -1,18 +1,17 @@
 -- A block that was never written reads as zeros.
-use Rattle.std.proofs.Common.{◌≡◌, ℕ, List, [], ◌∷◌, ◌++◌, Some, None, refl, arith, replicate}
-use Rattle.flat_unit.specs.declared.event.Event.{Event}
+use Rattle.std.proofs.Common.{◌≡◌, ℕ, List, [], ◌∷◌, ◌++◌, refl, arith}
 use Rattle.flat_unit.specs.declared.event.Event.TheVariants.{Host, Device}
 use Rattle.hpb_cdb.specs.Read.{cdb_of}
 use Rattle.upiu_wire.specs.Kind.{kind_of}
 use Rattle.upiu_wire.specs.Upiu.{upiu_at, upiu_out}
 use Rattle.upiu_wire.specs.WireFault.{wire_fault_of}
-use Rattle.flat_unit.specs.Contents.{Block, candidates}
+use Rattle.flat_unit.specs.Contents.{Block}
 use Rattle.flat_unit.specs.History.{History, ◌▹◌}
 use Rattle.flat_unit.specs.Queue.{tasks_after}
 use Rattle.flat_unit.specs.Reply.{reply_of, effects_of}
 use Rattle.flat_unit.specs.Sends.{Data, Good}
 use Rattle.flat_unit.specs.Sound.{Sound}
-use Rattle.flat_unit.proofs.rows.Bytes.{sizes, zeros, place, block_of, blank_unit}
+use Rattle.flat_unit.proofs.rows.Bytes.{sizes, zeros, block_of, blank_unit}
 
 -- READ(10) of block 5 with tag 1, its DATA IN and its RESPONSE
 abbrev read : List ℕ

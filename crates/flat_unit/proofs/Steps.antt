@@ -18,7 +18,7 @@ use Rattle.upiu_wire.specs.Upiu.{Upiu, IsConsistent, upiu_at, upiu_out}
 use Rattle.upiu_wire.specs.Written.{blank_upiu, reject_upiu, response_upiu}
 use Rattle.flat_unit.specs.declared.event.Event.{Event}
 use Rattle.flat_unit.specs.declared.event.Event.TheVariants.{Host, Device, Reset, Moved, Failed}
-use Rattle.flat_unit.specs.Causes.{HasCauseFor, MayBeFull, EventHasCause, last_number}
+use Rattle.flat_unit.specs.Causes.{HasCauseFor, MayBeFull, EventHasCause}
 use Rattle.flat_unit.specs.Command.{is_write, bytes_taken, needed, command_of}
 use Rattle.flat_unit.specs.Contents.{Block, Shown, Leaving, block_at, block_written, is_among, is_same, leaving_all, next_place, offset_in, shown_at, candidates}
 use Rattle.flat_unit.specs.History.{History, ◌▹◌}
@@ -80,7 +80,7 @@ progress_within s programmed (task ∷ _) is = by_command task.command task is
     by_command _ task is = omega arith
 
 -- a next number at the end is a cause
-pub full_of : (s : Sizes) (first : First) (kept : Kept) (e : History) → Stands s first kept e → last_number ≤ kept.next → MayBeFull s first.next e
+pub full_of : (s : Sizes) (first : First) (kept : Kept) (e : History) → Stands s first kept e → s.full_at ≤ kept.next → MayBeFull s first.next e
 full_of s first kept e at ended = let e = progress_within s kept.programmed kept.tasks at.progress in omega (arith, at.at_most, e)
 
 -- each ending's cause

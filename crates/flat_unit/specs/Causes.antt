@@ -29,13 +29,9 @@ JustFailed _ = ⊥
 abbrev pub JustFailedToRead : History → Type 0
 JustFailedToRead e = (earlier : History) × (e ≡ Failed Read ∷ earlier)
 
--- the chip's sequence numbers end here
-abbrev pub last_number : ℕ
-last_number = 2 ^ 62
-
--- the numbers may have ended, where the first chip's next one was this
+-- a write may find no page or no number any more, where the first chip's next number was this
 abbrev pub MayBeFull : Sizes → ℕ → History → Type 0
-MayBeFull s next e = last_number ≤ next + moves e + blocks_come s e
+MayBeFull s next e = s.full_at ≤ next + moves e + blocks_come s e
 
 -- an ending with this code has its cause; foreign says that the chip was none of this device's
 pub record HasCauseFor (s : Sizes) (foreign : Type 0) (next : ℕ) (e : History) (code : ℕ) : Type 0 where

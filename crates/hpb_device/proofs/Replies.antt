@@ -1,6 +1,7 @@
 -- What answers the host, by the tasks of a history that the device keeps.
-use Rattle.std.proofs.Common.{◌≡◌, ℕ, ◌+◌, ◌-◌, ◌*◌, ◌<◌, ◌≤◌, ◌==◌, Bool, true, false, not, ◌&&◌, nat_lt, nat_le, List, [], ◌∷◌, length, Option, Some, None, Result, Ok, Err, refl, sym, ◌∙◌, ap, subst, arith, add-zero, zero-add}
+use Rattle.std.proofs.Common.{◌≡◌, ℕ, ◌+◌, ◌-◌, ◌*◌, ◌^◌, ◌<◌, ◌≤◌, ◌==◌, Bool, true, false, not, ◌&&◌, nat_lt, nat_le, List, [], ◌∷◌, length, Option, Some, None, Result, Ok, Err, refl, sym, ◌∙◌, ap, subst, arith, add-zero, zero-add}
 use Rattle.std.proofs.lemmas.Bool.Decides.{nat_tests}
+use Rattle.flash_pages.specs.declared.chip.Geometry.{Geometry}
 use Rattle.hpb_cdb.specs.declared.cdb.Cdb.{Cdb}
 use Rattle.hpb_cdb.specs.declared.cdb.Cdb.TheVariants.{TestReady, Read, Write, Capacity, Sync, HpbRead, ReadBuffer, Prefetch, InactOne, InactAll}
 use Rattle.hpb_cdb.specs.declared.limits.Limits.{Limits}
@@ -13,9 +14,8 @@ use Rattle.upiu_wire.specs.declared.kind.Kind.TheVariants.{Command, DataOut}
 use Rattle.upiu_wire.specs.Upiu.{upiu_at}
 use Rattle.upiu_wire.specs.WireFault.{wire_fault_of}
 use Rattle.flat_unit.specs.Reply.{command_refusal, data_refusal, refusal_of_cdb, refusal_of_command, check_command, check, reply_of, reply_by_kind}
-use Rattle.flat_unit.specs.Queue.{tasks_changed, after_kept, with_command, task_of, change_head, with_data}
-use Rattle.flat_unit.specs.declared.event.Event.TheVariants.{Host}
-use Rattle.flat_unit.proofs.Laws.{reply_to_kind, kept_of_kind}
+use Rattle.flat_unit.proofs.Laws.{reply_to_kind}
+use Rattle.hpb_device.proofs.Harmless.{command_harmless, rejection_harmless}
 use Rattle.flat_unit.specs.Senses.{bad_field, wrong_data, sense_of_fault}
 use Rattle.flat_unit.specs.Task.{Task as Waiting}
 use Rattle.hpb_device.specs.declared.task.Task.{Task}
@@ -33,22 +33,22 @@ pub none_kept : (head : Option Task) (held : List ℕ) (tasks : List Waiting) �
 none_kept head held tasks none keeps = let P : Option Task → Type 0 = λ h. KeepsTasks h held tasks in subst P none keeps
 
 -- the bytes that a command moves
-pub needed_is : (luns erase_block : ℕ) (lim : Limits) (command : Cdb) → needed (sizes luns lim erase_block) command ≡ needed_by lim command
-needed_is luns erase_block lim TestReady = refl
-needed_is luns erase_block lim (Read lba n) = add-zero (4096 * n)
-needed_is luns erase_block lim (Write lba n) = zero-add (4096 * n)
-needed_is luns erase_block lim Capacity = refl
-needed_is luns erase_block lim (Sync lba n) = refl
-needed_is luns erase_block lim (HpbRead lba entry n id) = add-zero (4096 * n)
-needed_is luns erase_block lim (ReadBuffer region sub len) = add-zero _
-needed_is luns erase_block lim (Prefetch lba id len) = zero-add len
-needed_is luns erase_block lim (InactOne region) = refl
-needed_is luns erase_block lim InactAll = refl
+pub needed_is : (luns : ℕ) (geometry : Geometry) (lim : Limits) (command : Cdb) → needed (sizes luns lim geometry) command ≡ needed_by lim command
+needed_is luns geometry lim TestReady = refl
+needed_is luns geometry lim (Read lba n) = add-zero (4096 * n)
+needed_is luns geometry lim (Write lba n) = zero-add (4096 * n)
+needed_is luns geometry lim Capacity = refl
+needed_is luns geometry lim (Sync lba n) = refl
+needed_is luns geometry lim (HpbRead lba entry n id) = add-zero (4096 * n)
+needed_is luns geometry lim (ReadBuffer region sub len) = add-zero _
+needed_is luns geometry lim (Prefetch lba id len) = zero-add len
+needed_is luns geometry lim (InactOne region) = refl
+needed_is luns geometry lim InactAll = refl
 
 -- where no task is kept and the unit is there, the CDB decides
-pub uncontested : (luns erase_block : ℕ) (lim : Limits) (v : Upiu) → v.lun < luns
-    → command_refusal (sizes luns lim erase_block) true [] v ≡ refusal_of_cdb (sizes luns lim erase_block) true v (command_of (sizes luns lim erase_block) v.cdb)
-uncontested luns erase_block lim v inside =
+pub uncontested : (luns : ℕ) (geometry : Geometry) (lim : Limits) (v : Upiu) → v.lun < luns
+    → command_refusal (sizes luns lim geometry) true [] v ≡ refusal_of_cdb (sizes luns lim geometry) true v (command_of (sizes luns lim geometry) v.cdb)
+uncontested luns geometry lim v inside =
     let test : nat_le luns v.lun ≡ false = grind (arith, nat_tests) in rw test refl
 
 hpb_on : (b : Bool) → (b && not true) ≡ false
@@ -56,13 +56,13 @@ hpb_on true = refl
 hpb_on false = refl
 
 -- the length that is expected decides
-pub by_length : (luns erase_block : ℕ) (lim : Limits) (v : Upiu) (command : Cdb) (short : Bool) → command_of (sizes luns lim erase_block) v.cdb ≡ Ok command
+pub by_length : (luns : ℕ) (geometry : Geometry) (lim : Limits) (v : Upiu) (command : Cdb) (short : Bool) → command_of (sizes luns lim geometry) v.cdb ≡ Ok command
     → v.lun < luns → nat_lt v.first (needed_by lim command) ≡ short
-    → command_refusal (sizes luns lim erase_block) true [] v ≡ (elim short [ true ↦ Some (check_command v bad_field) | false ↦ None ])
-by_length luns erase_block lim v command short is inside test =
-    let s = sizes luns lim erase_block in
-    let tested : nat_lt v.first (needed s command) ≡ short = ap (λ (n : ℕ). nat_lt v.first n) (needed_is luns erase_block lim command) ∙ test in
-    uncontested luns erase_block lim v inside
+    → command_refusal (sizes luns lim geometry) true [] v ≡ (elim short [ true ↦ Some (check_command v bad_field) | false ↦ None ])
+by_length luns geometry lim v command short is inside test =
+    let s = sizes luns lim geometry in
+    let tested : nat_lt v.first (needed s command) ≡ short = ap (λ (n : ℕ). nat_lt v.first n) (needed_is luns geometry lim command) ∙ test in
+    uncontested luns geometry lim v inside
     ∙ (ap (refusal_of_cdb s true v) is ∙ rw (hpb_on (is_hpb command), tested) (choice short))
   where
     choice : (b : Bool) → Rattle.std.proofs.Common.cond b (Some (check_command v bad_field)) None ≡ (elim b [ true ↦ Some (check_command v bad_field) | false ↦ None ])
@@ -70,11 +70,11 @@ by_length luns erase_block lim v command short is inside test =
     choice false = refl
 
 -- a CDB that is refused
-pub by_fault : (luns erase_block : ℕ) (lim : Limits) (v : Upiu) (cause : Cause) → IsCommandOf (sizes luns lim erase_block) v.cdb (Err cause) → v.lun < luns
-    → command_refusal (sizes luns lim erase_block) true [] v ≡ Some (reply_upiu (Check v.lun v.tag v.first cause))
-by_fault luns erase_block lim v cause refused inside =
-    let s = sizes luns lim erase_block in
-    uncontested luns erase_block lim v inside
+pub by_fault : (luns : ℕ) (geometry : Geometry) (lim : Limits) (v : Upiu) (cause : Cause) → IsCommandOf (sizes luns lim geometry) v.cdb (Err cause) → v.lun < luns
+    → command_refusal (sizes luns lim geometry) true [] v ≡ Some (reply_upiu (Check v.lun v.tag v.first cause))
+by_fault luns geometry lim v cause refused inside =
+    let s = sizes luns lim geometry in
+    uncontested luns geometry lim v inside
     ∙ (ap (refusal_of_cdb s true v) refused.1 ∙ ap (λ (sense : FixedSense). Some (check v.lun v.tag v.first sense)) (sym refused.2))
 
 -- data for the task that waits for them: they are taken, or they end it
@@ -91,25 +91,32 @@ by_data held kept task v good at waits lun tag test =
     choice false = refl
 
 -- what comes of a COMMAND is what comes of its bytes
-pub follows_command : (luns erase_block : ℕ) (lim : Limits) (tasks : List Waiting) (bytes : List ℕ) (task : Task) → wire_fault_of bytes ≡ None → (upiu_at bytes).kind ≡ Command
-    → IsUnopposed (sizes luns lim erase_block) tasks (upiu_at bytes) task → Follows (sizes luns lim erase_block) tasks bytes (Keep task)
-follows_command luns erase_block lim tasks bytes task whole kind free =
-    let s = sizes luns lim erase_block in
-    let silent : reply_of s true tasks bytes ≡ None = reply_to_kind s true tasks bytes Command whole kind ∙ free.unopposed in
-    (silent, kept_of_kind s true tasks bytes Command kind silent ∙ ap (with_command tasks (upiu_at bytes)) free.command)
+pub follows_command : (luns : ℕ) (geometry : Geometry) (lim : Limits) (tasks : List Waiting) (bytes : List ℕ) (task : Task) → wire_fault_of bytes ≡ None → (upiu_at bytes).kind ≡ Command
+    → IsUnopposed (sizes luns lim geometry) tasks (upiu_at bytes) task → Follows (sizes luns lim geometry) tasks bytes (Keep task)
+follows_command luns geometry lim tasks bytes task whole kind free = record {
+  silent = reply_to_kind (sizes luns lim geometry) true tasks bytes Command whole kind ∙ free.unopposed;
+  kind = kind;
+  command = free.command;
+}
 
-pub follows_refusal : (luns erase_block : ℕ) (lim : Limits) (tasks : List Waiting) (bytes : List ℕ) (reply : Reply) → wire_fault_of bytes ≡ None → (upiu_at bytes).kind ≡ Command
-    → IsJudged (sizes luns lim erase_block) tasks (upiu_at bytes) (Err reply) → Follows (sizes luns lim erase_block) tasks bytes (Answer reply)
-follows_refusal luns erase_block lim tasks bytes reply whole kind refused =
-    reply_to_kind (sizes luns lim erase_block) true tasks bytes Command whole kind ∙ refused
+pub follows_refusal : (luns : ℕ) (geometry : Geometry) (lim : Limits) (tasks : List Waiting) (bytes : List ℕ) (reply : Reply) → wire_fault_of bytes ≡ None → (upiu_at bytes).kind ≡ Command
+    → (upiu_at bytes).first < 2 ^ 32 → IsJudged (sizes luns lim geometry) tasks (upiu_at bytes) (Err reply) → Follows (sizes luns lim geometry) tasks bytes (Answer reply)
+follows_refusal luns geometry lim tasks bytes reply whole kind fits refused = record {
+  answers = reply_to_kind (sizes luns lim geometry) true tasks bytes Command whole kind ∙ refused;
+  harmless = command_harmless (sizes luns lim geometry) true tasks (upiu_at bytes) fits (reply_upiu reply) refused;
+}
 
 -- what comes of a DATA OUT is what comes of its bytes
-pub follows_data : (luns erase_block : ℕ) (lim : Limits) (tasks : List Waiting) (bytes : List ℕ) (verdict : Verdict) → wire_fault_of bytes ≡ None → (upiu_at bytes).kind ≡ DataOut
-    → IsDataVerdict tasks (upiu_at bytes) verdict → Follows (sizes luns lim erase_block) tasks bytes verdict
-follows_data luns erase_block lim tasks bytes (Keep task) whole kind verdict = absurd verdict
-follows_data luns erase_block lim tasks bytes (Data segment) whole kind verdict =
-    let s = sizes luns lim erase_block in
-    let silent : reply_of s true tasks bytes ≡ None = reply_to_kind s true tasks bytes DataOut whole kind ∙ verdict.0 in
-    (silent, kept_of_kind s true tasks bytes DataOut kind silent ∙ ap (λ (segment_bytes : List ℕ). change_head (with_data segment_bytes) tasks) (sym verdict.1))
-follows_data luns erase_block lim tasks bytes (Answer reply) whole kind verdict = reply_to_kind (sizes luns lim erase_block) true tasks bytes DataOut whole kind ∙ verdict
-follows_data luns erase_block lim tasks bytes (End reply) whole kind verdict = reply_to_kind (sizes luns lim erase_block) true tasks bytes DataOut whole kind ∙ verdict
+pub follows_data : (luns : ℕ) (geometry : Geometry) (lim : Limits) (tasks : List Waiting) (bytes : List ℕ) (verdict : Verdict) → wire_fault_of bytes ≡ None → (upiu_at bytes).kind ≡ DataOut
+    → IsDataVerdict tasks (upiu_at bytes) verdict → Follows (sizes luns lim geometry) tasks bytes verdict
+follows_data luns geometry lim tasks bytes (Keep task) whole kind verdict = absurd verdict
+follows_data luns geometry lim tasks bytes (Data segment) whole kind verdict = record {
+  silent = reply_to_kind (sizes luns lim geometry) true tasks bytes DataOut whole kind ∙ verdict.0;
+  kind = kind;
+  segment_is = verdict.1;
+}
+follows_data luns geometry lim tasks bytes (Answer reply) whole kind verdict = record {
+  answers = reply_to_kind (sizes luns lim geometry) true tasks bytes DataOut whole kind ∙ verdict.0;
+  harmless = rejection_harmless (sizes luns lim geometry) tasks reply verdict.1;
+}
+follows_data luns geometry lim tasks bytes (End reply) whole kind verdict = reply_to_kind (sizes luns lim geometry) true tasks bytes DataOut whole kind ∙ verdict

@@ -3,9 +3,10 @@ use Rattle.std.specs.Prelude.{⊤, ◌≡◌, ℕ, ◌+◌, ◌<◌, ◌≤◌, 
 use Rattle.hpb_cdb.specs.declared.limits.Limits.{Limits}
 use Rattle.hpb_cdb.specs.Cdb.{IsCdb}
 use Rattle.upiu_wire.specs.Upiu.{Upiu, upiu_at}
-use Rattle.flat_unit.specs.declared.event.Event.TheVariants.{Host}
+use Rattle.flat_unit.proofs.Goes.{IsHarmless}
+use Rattle.upiu_wire.specs.declared.kind.Kind.TheVariants.{Command, DataOut}
+use Rattle.hpb_device.specs.declared.reply.Reply.TheVariants.{Reject}
 use Rattle.flat_unit.specs.Command.{command_of}
-use Rattle.flat_unit.specs.Queue.{tasks_changed, task_of, change_head, with_data}
 use Rattle.flat_unit.specs.Reply.{reply_of, command_refusal, data_refusal}
 use Rattle.flat_unit.specs.Senses.{sense_of_fault}
 use Rattle.flat_unit.specs.Sizes.{Sizes}
@@ -60,20 +61,38 @@ abbrev pub IsJudged : Sizes → List Waiting → Upiu → Result Task Reply → 
 IsJudged s tasks upiu (Ok task) = IsUnopposed s tasks upiu task
 IsJudged s tasks upiu (Err reply) = command_refusal s true tasks upiu ≡ Some (reply_upiu reply)
 
+-- the reply is a REJECT
+abbrev pub IsRejection : Reply → Type 0
+IsRejection (Reject lun tag reason) = reason < 256
+IsRejection _ = ⊥
+
 -- what comes of a DATA OUT is what the tasks that are kept allow
 abbrev pub IsDataVerdict : List Waiting → Upiu → Verdict → Type 0
 IsDataVerdict tasks upiu (Keep task) = ⊥
 IsDataVerdict tasks upiu (Data segment) = (data_refusal tasks upiu ≡ None) × (segment.now ≡ upiu.segment)
-IsDataVerdict tasks upiu (Answer reply) = data_refusal tasks upiu ≡ Some (reply_upiu reply)
+IsDataVerdict tasks upiu (Answer reply) = (data_refusal tasks upiu ≡ Some (reply_upiu reply)) × IsRejection reply
 IsDataVerdict tasks upiu (End reply) = data_refusal tasks upiu ≡ Some (reply_upiu reply)
+
+-- a command that nothing answers at once
+pub record IsKept (s : Sizes) (tasks : List Waiting) (bytes : List ℕ) (task : Task) : Type 0 where
+  pub silent : reply_of s true tasks bytes ≡ None
+  pub kind : (upiu_at bytes).kind ≡ Command
+  pub command : command_of s (upiu_at bytes).cdb ≡ Ok task.command
+
+-- data that nothing answers at once
+pub record IsTaken (s : Sizes) (tasks : List Waiting) (bytes segment : List ℕ) : Type 0 where
+  pub silent : reply_of s true tasks bytes ≡ None
+  pub kind : (upiu_at bytes).kind ≡ DataOut
+  pub segment_is : segment ≡ (upiu_at bytes).segment
+
+-- a reply that ends no task
+pub record IsAnswered (s : Sizes) (tasks : List Waiting) (bytes : List ℕ) (reply : Reply) : Type 0 where
+  pub answers : reply_of s true tasks bytes ≡ Some (reply_upiu reply)
+  pub harmless : IsHarmless s tasks (reply_upiu reply)
 
 -- what comes of bytes is what the tasks that are kept allow
 abbrev pub Follows : Sizes → List Waiting → List ℕ → Verdict → Type 0
-Follows s tasks bytes (Keep task) =
-    (reply_of s true tasks bytes ≡ None)
-    × (tasks_changed s true tasks (Host bytes) ≡ tasks ++ task_of (upiu_at bytes) task.command ∷ [])
-Follows s tasks bytes (Data segment) =
-    (reply_of s true tasks bytes ≡ None)
-    × (tasks_changed s true tasks (Host bytes) ≡ change_head (with_data segment.now) tasks)
-Follows s tasks bytes (Answer reply) = reply_of s true tasks bytes ≡ Some (reply_upiu reply)
+Follows s tasks bytes (Keep task) = IsKept s tasks bytes task
+Follows s tasks bytes (Data segment) = IsTaken s tasks bytes segment.now
+Follows s tasks bytes (Answer reply) = IsAnswered s tasks bytes reply
 Follows s tasks bytes (End reply) = reply_of s true tasks bytes ≡ Some (reply_upiu reply)

@@ -1,6 +1,7 @@
 // What comes of the bytes of the host, by the command that is kept.
 ghost use Rattle.std.specs.Prelude.{◌≡◌, ◌<◌, ◌^◌, ℕ, List, length, None, IfOk, IfSome, OnOk};
 ghost use Rattle.std.specs.Bool.{OnTrue};
+ghost use Rattle.flash_pages.specs.declared.chip.Geometry.{Geometry};
 ghost use Rattle.hpb_cdb.specs.Cdb.{IsCdb};
 ghost use Rattle.upiu_wire.specs.Upiu.{upiu_at};
 ghost use Rattle.flat_unit.specs.Reply.{fault_rejection};
@@ -43,8 +44,8 @@ pub fn judge<'a>(limits: Limits, luns: u8, head: Option<Task>, bytes: &'a [u8]) 
     requires few_blocks { limits.units < 2 ^ 32 }
     requires head { IfSome head (IsTaskOk luns limits.units) }
     ensures verdict { IsVerdict limits luns head (upiu_at bytes.now) result }
-    ensures follows { (erase_block : ℕ) (held : List ℕ) (tasks : List Waiting) → KeepsTasks head held tasks
-        → Follows (sizes luns limits erase_block) tasks bytes.now result }
+    ensures follows { (geometry : Geometry) (held : List ℕ) (tasks : List Waiting) → KeepsTasks head held tasks
+        → Follows (sizes luns limits geometry) tasks bytes.now result }
 {
     match UpiuView::parse(bytes) {
         Err(fault) => Verdict::Answer(reject_bytes(bytes, fault.number())),
@@ -92,9 +93,10 @@ fn judge_command(
     requires limits { 0 < limits.per_sub }
     requires few_blocks { limits.units < 2 ^ 32 }
     ensures alone { OnOk result (head ≡ None) }
+    ensures first_fits { (upiu_at view.now).first < 2 ^ 32 }
     ensures begun { IfOk result (IsBegun limits luns (upiu_at view.now)) }
-    ensures judged { (erase_block : ℕ) (held : List ℕ) (tasks : List Waiting) → KeepsTasks head held tasks
-        → IsJudged (sizes luns limits erase_block) tasks (upiu_at view.now) result }
+    ensures judged { (geometry : Geometry) (held : List ℕ) (tasks : List Waiting) → KeepsTasks head held tasks
+        → IsJudged (sizes luns limits geometry) tasks (upiu_at view.now) result }
 {
     let lun = view.lun();
     let tag = view.tag();
@@ -141,7 +143,7 @@ fn command_of(limits: Limits, cdb: &[u8]) -> Result<Cdb, Cause>
     requires limits { 0 < limits.per_sub }
     ensures command { IfOk result (IsCdb cdb.now limits) }
     ensures served { IfOk result (IsServed limits.units) }
-    ensures command_of { (luns : ℕ) (erase_block : ℕ) → IsCommandOf (sizes luns limits erase_block) cdb.now result }
+    ensures command_of { (luns : ℕ) (geometry : Geometry) → IsCommandOf (sizes luns limits geometry) cdb.now result }
 {
     if cdb[0] != READ_10 && cdb[0] != WRITE_10 {
         return Err(Cause::UnknownOpcode);

@@ -1,4 +1,4 @@
-//! Lines of a trace, lines of events, and lines read over cuts.
+//! Lines of a trace, lines that are written, and lines that are read over cuts and faults.
 ghost use Rattle.std.specs.Prelude.{◌≤◌, length};
 ghost use Rattle.flat_unit.specs.Print.{line_of};
 
@@ -98,5 +98,45 @@ fn lines_over_cuts(rt: HostRuntime) -> Result<(), Fail> {
     );
     assert!(rt; !reader.has_more(&mut source)?);
     assert!(rt; reader.next_line(&mut source)?.is_none());
+    Ok(())
+}
+
+#[test]
+fn last_line(rt: HostRuntime) {
+    let mut out = [b'.'; 142];
+    let count = put_counts(&[12, 0, 7, 1, 100], &mut out);
+    assert!(rt; count <= out.len());
+    let line = b"T steps=12 lookups=0 entries=7 moved=1 erased=100\n";
+    assert_eq!(rt; &out[..count], line.as_slice());
+}
+
+#[test]
+fn read_that_fails(rt: HostRuntime) -> Result<(), Fail> {
+    let bytes = b"DR\n".as_slice().to_vec(rt.alloc())?;
+    let cuts = [1].as_slice().to_vec(rt.alloc())?;
+    let fail_at = [2].as_slice().to_vec(rt.alloc())?;
+    let mut source = MemSource::new(bytes, cuts, fail_at);
+    let mut reader = LineReader::new(rt.alloc())?;
+    assert_eq!(rt;
+        reader.next_line(&mut source).err(),
+        Some(LineFault::ReadFault)
+    );
+    assert_eq!(rt;
+        reader.next_line(&mut source)?.ok_or("no line")?,
+        b"DR".as_slice()
+    );
+    Ok(())
+}
+
+#[test]
+fn line_that_is_too_long(rt: HostRuntime) -> Result<(), Fail> {
+    let bytes = vec![in rt.alloc(); b'#'; 131_201]?;
+    let mut source = MemSource::new(bytes, Vec::new(rt.alloc()), Vec::new(rt.alloc()));
+    let mut reader = LineReader::new(rt.alloc())?;
+    assert_eq!(rt;
+        reader.next_line(&mut source).err(),
+        Some(LineFault::TooLong)
+    );
+    assert!(rt; reader.has_more(&mut source)?);
     Ok(())
 }

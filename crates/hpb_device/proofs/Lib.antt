@@ -1,3 +1,4 @@
 pub mod Commands
 pub mod Harmless
+pub mod Receiving
 pub mod Replies

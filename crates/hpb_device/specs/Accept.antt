@@ -1,11 +1,12 @@
 -- What comes of bytes of the host.
-use Rattle.std.specs.Prelude.{⊤, ◌≡◌, ℕ, ◌+◌, ◌<◌, ◌≤◌, Bool, true, not, ◌==◌, ◌&&◌, nat_le, List, [], ◌∷◌, ◌++◌, length, Option, Some, None, Result, Ok, Err}
+use Rattle.std.specs.Prelude.{⊤, ◌≡◌, ℕ, ◌+◌, ◌^◌, ◌<◌, ◌≤◌, Bool, true, not, ◌==◌, ◌&&◌, nat_le, List, [], ◌∷◌, ◌++◌, length, Option, Some, None, Result, Ok, Err}
 use Rattle.hpb_cdb.specs.declared.limits.Limits.{Limits}
 use Rattle.hpb_cdb.specs.Cdb.{IsCdb}
 use Rattle.upiu_wire.specs.Upiu.{Upiu, upiu_at}
 use Rattle.flat_unit.proofs.Goes.{IsHarmless}
 use Rattle.upiu_wire.specs.declared.kind.Kind.TheVariants.{Command, DataOut}
-use Rattle.hpb_device.specs.declared.reply.Reply.TheVariants.{Reject}
+use Rattle.hpb_device.specs.declared.reply.Reply.TheVariants.{Reject, Check}
+use Rattle.hpb_device.specs.declared.reply.Cause.TheVariants.{DataNotAsked}
 use Rattle.flat_unit.specs.Command.{command_of}
 use Rattle.flat_unit.specs.Reply.{reply_of, command_refusal, data_refusal}
 use Rattle.flat_unit.specs.Senses.{sense_of_fault}
@@ -43,7 +44,8 @@ IsVerdict lim luns head upiu (Keep task) = (head ≡ None) × IsBegun lim luns u
 IsVerdict lim luns (Some task) upiu (Data segment) = IsNextPiece task segment.now × (segment.now ≡ upiu.segment)
 IsVerdict lim luns None upiu (Data segment) = ⊥
 IsVerdict lim luns head upiu (Answer reply) = ⊤
-IsVerdict lim luns (Some task) upiu (End reply) = WaitsForData task
+IsVerdict lim luns (Some task) upiu (End reply) =
+    WaitsForData task × ((residual : ℕ) × (residual < 2 ^ 32) × (reply ≡ Check task.lun task.tag residual DataNotAsked))
 IsVerdict lim luns None upiu (End reply) = ⊥
 
 -- the command of a CDB, or why it is refused

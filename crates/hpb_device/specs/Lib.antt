@@ -5,5 +5,6 @@ pub mod Keeps
 pub mod Limits
 pub mod Reply
 pub mod Sizes
+pub mod Standing
 pub mod State
 pub mod Task

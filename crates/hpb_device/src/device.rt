@@ -1,7 +1,12 @@
-ghost use Rattle.std.specs.Prelude.{◌≡◌, ◌≤◌, ◌↔◌, ◌*◌, ◌+◌, ◌^◌, ◌-◌, ◌<◌, [], None, IsTrue, IsSome, IfOk, IfErr, IfSome, true, false};
+ghost use Rattle.std.specs.Prelude.{◌≡◌, ◌≤◌, ◌↔◌, ◌*◌, ◌+◌, ◌^◌, ◌-◌, ◌<◌, List, [], None, IsTrue, IsSome, IfOk, IfErr, IfSome, true, false};
 ghost use Rattle.hpb_outside.specs.Faults.{Rose, raised};
 ghost use Rattle.flash_pages.specs.Chip.{erased_chip};
 ghost use Rattle.region_state.specs.Shape.{IsWithinLimits};
+ghost use Rattle.flat_unit.specs.declared.event.Event.TheVariants.{Host};
+ghost use Rattle.flat_unit.specs.History.{History, ◌▹◌, followed_by};
+ghost use Rattle.flat_unit.specs.Sound.{answers_to};
+ghost use Rattle.flat_unit.specs.Stands.{First};
+ghost use Rattle.flat_unit.specs.Task.{Task as Waiting};
 ghost use Rattle.hpb_device.specs.Limits.{limits_of};
 ghost use Rattle.hpb_device.specs.State.{AtRest, IsNewFault, steps_left};
 ghost use Rattle.std.specs.Bool.{OnFalse};
@@ -100,6 +105,8 @@ impl<F: Flash> Model for Device<F> {
 impl<F: Flash> Device<F> {
     ghost use Rattle.hpb_device.specs.Accept.{IsNextPiece};
     ghost use Rattle.hpb_device.specs.Calls.{Receives, Steps, TakesData};
+    ghost use Rattle.hpb_device.specs.Keeps.{KeepsTasks};
+    ghost use Rattle.hpb_device.specs.Standing.{DeviceStands, sizes_of, answer_events};
 
     /// A device of `luns` logical units, each of this shape, over an erased chip. It takes all its memory here.
     ///
@@ -156,6 +163,10 @@ impl<F: Flash> Device<F> {
 
     /// Takes a UPIU of the host. What isn't kept is answered at once, by the UPIU in `out`.
     pub fn receive(&mut self, bytes: &[u8], out: &mut UpiuBuf) -> Sent
+        ensures stands { (first : First) (e : History) → DeviceStands self.old first e
+            → DeviceStands self.new first (followed_by (e ▹ Host bytes.now) (answer_events result out.new)) }
+        ensures answers { (tasks : List Waiting) → KeepsTasks self.old.head self.old.held tasks
+            → answers_to (sizes_of self.old) true tasks bytes.now ≡ answer_events result out.new }
         ensures receives { Receives self.old self.new bytes.now result }
         ensures store { self.new.store ≡ self.old.store }
         ensures shape { self.new.shape ≡ self.old.shape }

@@ -1,0 +1,185 @@
+-- A device that stands at a history stands at it with the bytes of the host and their answer.
+use Rattle.std.proofs.Common.{◌≡◌, ℕ, ◌+◌, ◌-◌, ◌^◌, ◌<◌, ◌≤◌, Bool, true, false, if◌then◌else◌, List, [], ◌∷◌, ◌++◌, length, drop, Option, Some, None, zero, suc, refl, sym, ◌∙◌, ap, subst, arith}
+use Rattle.std.proofs.lemmas.List.{length-append, drop-append-le}
+use Rattle.flash_pages.specs.declared.chip.Geometry.{Geometry}
+use Rattle.hpb_cdb.specs.declared.limits.Limits.{Limits}
+use Rattle.upiu_wire.specs.declared.kind.Kind.{Kind}
+use Rattle.upiu_wire.specs.declared.kind.Kind.TheVariants.{NopOut, Command, DataOut, ManageRequest, QueryRequest, NopIn, Response, DataIn, ManageResponse, ReadyToTransfer, QueryResponse, Reject as RejectKind}
+use Rattle.upiu_wire.specs.declared.fault.WireFault.{WireFault}
+use Rattle.upiu_wire.specs.Upiu.{Upiu, upiu_at, upiu_out}
+use Rattle.upiu_wire.specs.WireFault.{wire_fault_of}
+use Rattle.flat_unit.specs.declared.event.Event.{Event}
+use Rattle.flat_unit.specs.declared.event.Event.TheVariants.{Host, Device}
+use Rattle.flat_unit.specs.History.{History, ◌▹◌}
+use Rattle.flat_unit.specs.Queue.{task_of, with_data}
+use Rattle.flat_unit.specs.Reply.{reply_of, effects_of, effects_by_fault, effects_by_kind, check}
+use Rattle.flat_unit.specs.Senses.{wrong_data}
+use Rattle.flat_unit.specs.Sizes.{Sizes}
+use Rattle.flat_unit.specs.Sound.{answers_to, reply_events}
+use Rattle.flat_unit.specs.Stands.{First, Kept, Stands}
+use Rattle.flat_unit.specs.Task.{Task as Waiting}
+use Rattle.flat_unit.proofs.Steps.{stands_accepted, stands_taken, stands_answered, stands_refused}
+use Rattle.hpb_device.specs.declared.task.Task.{Task}
+use Rattle.hpb_device.specs.declared.reply.Reply.{Reply}
+use Rattle.hpb_device.specs.declared.reply.Reply.TheVariants.{Check}
+use Rattle.hpb_device.specs.declared.reply.Cause.TheVariants.{DataNotAsked}
+use Rattle.hpb_device.specs.Accept.{IsBegun, IsKept, IsTaken, IsAnswered}
+use Rattle.hpb_device.specs.Keeps.{KeepsTasks, IsTaskOf}
+use Rattle.hpb_device.specs.Limits.{limits_of}
+use Rattle.hpb_device.specs.Reply.{reply_upiu}
+use Rattle.hpb_device.specs.Sizes.{sizes}
+use Rattle.hpb_device.specs.Standing.{sizes_of, kept_of, programmed_of, DeviceStands}
+use Rattle.hpb_device.specs.State.{DeviceState}
+
+-- no request but a command does anything
+pub no_effects : (luns : ℕ) (lim : Limits) (geometry : Geometry) (tasks : List Waiting) (bytes : List ℕ) → effects_of (sizes luns lim geometry) true tasks bytes ≡ []
+unfolding effects_of
+no_effects luns lim geometry tasks bytes = by_fault (wire_fault_of bytes)
+  where
+    by_kind : (kind : Kind) → effects_by_kind kind (sizes luns lim geometry) true tasks (upiu_at bytes) ≡ []
+    by_kind QueryRequest = refl
+    by_kind ManageRequest = refl
+    by_kind _ = refl
+    by_fault : (fault : Option WireFault) → effects_by_fault (sizes luns lim geometry) true tasks bytes fault ≡ []
+    by_fault (Some fault) = refl
+    by_fault None = by_kind (upiu_at bytes).kind
+
+drop-nil : (n : ℕ) → drop {A = ℕ} n [] ≡ []
+drop-nil zero = refl
+drop-nil (suc n) = refl
+
+-- a command is kept
+pub stands_kept : (d : DeviceState) (task : Task) (bytes : List ℕ) (lim : Limits) (luns : ℕ) (first : First) (e : History) → d.head ≡ None → IsBegun lim luns (upiu_at bytes) task
+    → ((tasks : List Waiting) → KeepsTasks d.head d.held tasks → IsKept (sizes_of d) tasks bytes task)
+    → DeviceStands d first e → DeviceStands (record d { head = Some task; held = [] }) first (e ▹ Host bytes)
+stands_kept d task bytes lim luns first e none begun follows at =
+    let kept = follows at.tasks at.keeps in
+    let v = upiu_at bytes in
+    let empty : at.tasks ≡ [] = subst (λ (h : Option Task). KeepsTasks h d.held at.tasks) none at.keeps in
+    let now = stands_accepted (sizes_of d) first (kept_of d at.tasks) e bytes task.command kept.silent kept.kind kept.command at.stands in
+    let P : List Waiting → ℕ → Type 0 =
+        λ tasks programmed. Stands (sizes_of d) first (record (kept_of d tasks) { programmed = programmed }) (e ▹ Host bytes) in
+    let fresh : programmed_of d.head ≡ task.programmed =
+        ap programmed_of none ∙ ap (λ (t : Task). t.programmed) (sym begun.task_is) in
+    record {
+      tasks = task_of v task.command ∷ [];
+      keeps = (task_of v task.command, record {
+        lun = ap (λ (t : Task). t.lun) (sym begun.task_is);
+        tag = ap (λ (t : Task). t.tag) (sym begun.task_is);
+        command = refl;
+        expected = ap (λ (t : Task). t.expected) (sym begun.task_is);
+        asked = ap (λ (t : Task). t.asked) (sym begun.task_is);
+        come = ap (λ (t : Task). t.come) (sym begun.task_is);
+        last = drop-nil (task.come - length {A = ℕ} []);
+        sent = ap (λ (t : Task). t.sent) (sym begun.task_is);
+      }, refl);
+      stands = subst (λ (n : ℕ). P (task_of v task.command ∷ []) n) fresh (subst (λ (tasks : List Waiting). P tasks (programmed_of d.head)) (ap (λ (ts : List Waiting). ts ++ task_of v task.command ∷ []) empty) now);
+    }
+
+-- data are added to the head
+data_kept : (held segment : List ℕ) (kept : Task) (task : Waiting) → length held ≤ kept.come → IsTaskOf held kept task
+    → IsTaskOf (held ++ segment) (record kept { come = kept.come + length segment }) (with_data segment task)
+data_kept held segment kept task part at = record {
+  lun = at.lun;
+  tag = at.tag;
+  command = at.command;
+  expected = at.expected;
+  asked = at.asked;
+  come = length-append task.come segment ∙ ap (λ (n : ℕ). n + length segment) at.come;
+  last = last;
+  sent = at.sent;
+}
+  where
+    before : ℕ
+    before = kept.come - length held
+    same : (kept.come + length segment) - length (held ++ segment) ≡ before
+    same = let e = length-append held segment in omega (arith, e, part)
+    inside : before ≤ length task.come
+    inside = omega (arith, at.come)
+    last : drop ((kept.come + length segment) - length (held ++ segment)) (task.come ++ segment) ≡ held ++ segment
+    last =
+        ap (λ (n : ℕ). drop n (task.come ++ segment)) same
+        ∙ (drop-append-le before task.come segment inside ∙ ap (λ (xs : List ℕ). xs ++ segment) at.last)
+
+pub stands_with_data : (d : DeviceState) (kept : Task) (bytes segment : List ℕ) (first : First) (e : History) → d.head ≡ Some kept → length d.held ≤ kept.come
+    → ((tasks : List Waiting) → KeepsTasks d.head d.held tasks → IsTaken (sizes_of d) tasks bytes segment)
+    → DeviceStands d first e → DeviceStands (record d { head = Some (record kept { come = kept.come + length segment }); held = d.held ++ segment }) first (e ▹ Host bytes)
+stands_with_data d kept bytes segment first e is part follows at =
+    let taken = follows at.tasks at.keeps in
+    let keeps = subst (λ (h : Option Task). KeepsTasks h d.held at.tasks) is at.keeps in
+    let task = keeps.0 in
+    let alone : at.tasks ≡ task ∷ [] = keeps.2 in
+    let s = sizes_of d in
+    let standing : Stands s first (kept_of d (task ∷ [])) e = subst (λ (ts : List Waiting). Stands s first (kept_of d ts) e) alone at.stands in
+    let silent : reply_of s true (task ∷ []) bytes ≡ None = subst (λ (ts : List Waiting). reply_of s true ts bytes ≡ None) alone taken.silent in
+    let now = stands_taken s first (kept_of d (task ∷ [])) e bytes task [] silent taken.kind standing in
+    let P : List ℕ → ℕ → Type 0 =
+        λ more programmed. Stands s first (record (kept_of d (with_data more task ∷ [])) { programmed = programmed }) (e ▹ Host bytes) in
+    record {
+      tasks = with_data segment task ∷ [];
+      keeps = (with_data segment task, data_kept d.held segment kept task part keeps.1, refl);
+      stands = subst (λ (n : ℕ). P segment n) (ap programmed_of is) (subst (λ (xs : List ℕ). P xs (programmed_of d.head)) (sym taken.segment_is) now);
+    }
+
+-- a reply ends no task
+pub stands_with_reply : (d : DeviceState) (bytes : List ℕ) (reply : Reply) (out : List ℕ) (first : First) (e : History) → out ≡ upiu_out (reply_upiu reply)
+    → ((tasks : List Waiting) → KeepsTasks d.head d.held tasks → IsAnswered (sizes_of d) tasks bytes reply)
+    → DeviceStands d first e → DeviceStands d first (e ▹ Host bytes ▹ Device out)
+stands_with_reply d bytes reply out first e is follows at =
+    let answered = follows at.tasks at.keeps in
+    let s = sizes_of d in
+    let none = no_effects d.store.luns (limits_of d.shape) d.store.geometry at.tasks bytes in
+    let now = stands_answered s first (kept_of d at.tasks) e bytes (reply_upiu reply) answered.answers none answered.harmless at.stands in
+    record {
+      tasks = at.tasks;
+      keeps = at.keeps;
+      stands = subst (λ (b : List ℕ). Stands s first (kept_of d at.tasks) (e ▹ Host bytes ▹ Device b)) (sym is) now;
+    }
+
+-- data that weren't asked for end the head
+pub stands_without_head : (d : DeviceState) (kept : Task) (bytes out : List ℕ) (residual : ℕ) (first : First) (e : History) → d.head ≡ Some kept → residual < 2 ^ 32
+    → out ≡ upiu_out (reply_upiu (Check kept.lun kept.tag residual DataNotAsked))
+    → ((tasks : List Waiting) → KeepsTasks d.head d.held tasks → reply_of (sizes_of d) true tasks bytes ≡ Some (reply_upiu (Check kept.lun kept.tag residual DataNotAsked)))
+    → DeviceStands d first e → DeviceStands (record d { head = None }) first (e ▹ Host bytes ▹ Device out)
+stands_without_head d kept bytes out residual first e is fits sent follows at =
+    let keeps = subst (λ (h : Option Task). KeepsTasks h d.held at.tasks) is at.keeps in
+    let task = keeps.0 in
+    let alone : at.tasks ≡ task ∷ [] = keeps.2 in
+    let s = sizes_of d in
+    let standing : Stands s first (kept_of d (task ∷ [])) e = subst (λ (ts : List Waiting). Stands s first (kept_of d ts) e) alone at.stands in
+    let end = check task.lun task.tag residual wrong_data in
+    let same : reply_upiu (Check kept.lun kept.tag residual DataNotAsked) ≡ end =
+        ap (λ (lun : ℕ). check lun kept.tag residual wrong_data) (sym keeps.1.lun) ∙ ap (λ (tag : ℕ). check task.lun tag residual wrong_data) (sym keeps.1.tag) in
+    let answers : reply_of s true (task ∷ []) bytes ≡ Some end =
+        subst (λ (ts : List Waiting). reply_of s true ts bytes ≡ Some end) alone (follows at.tasks at.keeps ∙ ap (λ (u : Upiu). Some u) same) in
+    let none = no_effects d.store.luns (limits_of d.shape) d.store.geometry (task ∷ []) bytes in
+    let now = stands_refused s first (kept_of d (task ∷ [])) e bytes task [] residual answers none fits standing in
+    record {
+      tasks = [];
+      keeps = refl;
+      stands = subst (λ (b : List ℕ). Stands s first (record (kept_of d []) { programmed = 0 }) (e ▹ Host bytes ▹ Device b)) (sym (sent ∙ ap upiu_out same)) now;
+    }
+
+-- the events that a reply owes
+pub owes_events : (s : Sizes) (tasks : List Waiting) (bytes : List ℕ) (u : Upiu) (out : List ℕ) → reply_of s true tasks bytes ≡ Some u → effects_of s true tasks bytes ≡ [] → out ≡ upiu_out u
+    → answers_to s true tasks bytes ≡ Device out ∷ []
+owes_events s tasks bytes u out is none sent =
+    ap (reply_events (effects_of s true tasks bytes)) is ∙ (ap (λ (effects : List Event). Device (upiu_out u) ∷ effects) none ∙ ap (λ (b : List ℕ). Device b ∷ []) (sym sent))
+
+pub owes_nothing : (s : Sizes) (tasks : List Waiting) (bytes : List ℕ) → reply_of s true tasks bytes ≡ None → answers_to s true tasks bytes ≡ []
+owes_nothing s tasks bytes is = ap (reply_events (effects_of s true tasks bytes)) is
+
+-- a device is what its parts are
+pub device_is : (d now : DeviceState) (head : Option Task) (held : List ℕ) → now.store ≡ d.store → now.shape ≡ d.shape → now.head ≡ head → now.held ≡ held → record d { head = head; held = held } ≡ now
+device_is d now head held store shape is_head is_held =
+    λ i. record { store = sym store i; shape = sym shape i; head = sym is_head i; held = sym is_held i }
+
+-- the sizes are those of the limits and of the count of units
+pub sizes_are : (d : DeviceState) (lim : Limits) (luns : ℕ) → lim ≡ limits_of d.shape → d.store.luns ≡ luns → sizes luns lim d.store.geometry ≡ sizes_of d
+sizes_are d lim luns same_limits same_luns = λ i. sizes (sym same_luns i) (same_limits i) d.store.geometry
+
+pub stands_same : (d now : DeviceState) (first : First) (e : History) → d ≡ now → DeviceStands d first e → DeviceStands now first e
+stands_same d now first e same at = subst (λ (x : DeviceState). DeviceStands x first e) same at
+
+pub answers_same : (d now : DeviceState) (tasks : List Waiting) (bytes : List ℕ) (events : List Event) → d ≡ now → answers_to (sizes_of d) true tasks bytes ≡ events → answers_to (sizes_of now) true tasks bytes ≡ events
+answers_same d now tasks bytes events same at = subst (λ (x : DeviceState). answers_to (sizes_of x) true tasks bytes ≡ events) same at

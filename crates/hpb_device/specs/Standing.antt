@@ -1,0 +1,45 @@
+-- Where a device stands in a history.
+use Rattle.std.specs.Prelude.{ℕ, true, List, [], ◌∷◌, Option}
+use Rattle.std.specs.Option.{option_map_or}
+use Rattle.flash_pages.specs.Unit.{unit_of, next_seq}
+use Rattle.flat_unit.specs.declared.event.Event.{Event}
+use Rattle.flat_unit.specs.declared.event.Event.TheVariants.{Device}
+use Rattle.flat_unit.specs.History.{History}
+use Rattle.flat_unit.specs.Sizes.{Sizes}
+use Rattle.flat_unit.specs.Stands.{First, Kept, Stands}
+use Rattle.flat_unit.specs.Task.{Task as Waiting}
+use Rattle.hpb_device.specs.declared.device.Sent.{Sent}
+use Rattle.hpb_device.specs.declared.device.Sent.TheVariants.{Nothing, Upiu}
+use Rattle.hpb_device.specs.declared.task.Task.{Task}
+use Rattle.hpb_device.specs.Keeps.{KeepsTasks}
+use Rattle.hpb_device.specs.Limits.{limits_of}
+use Rattle.hpb_device.specs.Sizes.{sizes}
+use Rattle.hpb_device.specs.State.{DeviceState}
+
+abbrev pub sizes_of : DeviceState → Sizes
+sizes_of device = sizes device.store.luns (limits_of device.shape) device.store.geometry
+
+-- the blocks of the head that were programmed
+abbrev pub programmed_of : Option Task → ℕ
+programmed_of head = option_map_or (λ (task : Task). task.programmed) head 0
+
+-- what a device keeps, with these tasks
+abbrev pub kept_of : DeviceState → List Waiting → Kept
+kept_of device tasks = record {
+  tasks = tasks;
+  on = true;
+  unit = unit_of device.store.luns device.store.units device.store.pages;
+  programmed = programmed_of device.head;
+  next = next_seq device.store.pages;
+}
+
+-- the device keeps the tasks of the history, and stands at it
+pub record DeviceStands (device : DeviceState) (first : First) (e : History) : Type 0 where
+  pub tasks : List Waiting
+  pub keeps : KeepsTasks device.head device.held tasks
+  pub stands : Stands (sizes_of device) first (kept_of device tasks) e
+
+-- the events that answer the bytes of the host at once
+abbrev pub answer_events : Sent → List ℕ → List Event
+answer_events Nothing out = []
+answer_events Upiu out = Device out ∷ []

@@ -1,10 +1,12 @@
 -- What one step makes of the command that is kept.
-use Rattle.std.specs.Prelude.{◌≡◌, ◌⊎◌, ℕ, ◌+◌, ◌-◌, ◌*◌, ◌/◌, ◌<◌, ◌≤◌, ⊤, List, min, slice_range}
+use Rattle.std.specs.Prelude.{◌≡◌, ◌⊎◌, ℕ, ◌+◌, ◌-◌, ◌*◌, ◌/◌, ◌<◌, ◌≤◌, ⊤, List, [], length, min, slice_range, slice_set}
 use Rattle.hpb_outside.specs.Faults.{Rose, raised}
 use Rattle.flash_pages.specs.declared.chip.TheConstants.{BLOCK_BYTES}
-use Rattle.flash_pages.specs.Place.{Place}
+use Rattle.flash_pages.specs.declared.chip.ChipOp.{ChipOp}
+use Rattle.flash_pages.specs.declared.chip.ChipOp.TheVariants.{Read as ReadCall, Program as ProgramCall}
+use Rattle.flash_pages.specs.Place.{Place, index_of}
 use Rattle.flash_pages.specs.Chip.{erased_count}
-use Rattle.flash_pages.specs.Unit.{block_of}
+use Rattle.flash_pages.specs.Unit.{block_of, unit_of, next_seq}
 use Rattle.flash_store.specs.Store.{StoreState, ProgramsBlock}
 use Rattle.hpb_cdb.specs.declared.cdb.Cdb.{Cdb}
 use Rattle.hpb_cdb.specs.declared.cdb.Cdb.TheVariants.{Read, Write}
@@ -40,9 +42,15 @@ abbrev pub failure_of : Cdb → Cause
 failure_of (Read lba n) = ReadFailed
 failure_of _ = WriteFailed
 
+-- the call of the chip that a command makes
+abbrev pub call_of : Cdb → ChipOp
+call_of (Read lba n) = ReadCall
+call_of _ = ProgramCall
+
 -- the next block of a read was sent
 pub record Shows (old : StoreState) (task rest : Task) (out : List ℕ) : Type 0 where
   pub more : task.sent < bytes_given task.command
+  pub size : length (block_of old.pages (nth_place task (task.sent / BLOCK_BYTES))) ≡ BLOCK_BYTES
   pub sent : out ≡ upiu_out (data_upiu DataIn task.lun task.tag task.sent (block_of old.pages (nth_place task (task.sent / BLOCK_BYTES))))
   pub task_is : rest ≡ record task { sent = task.sent + BLOCK_BYTES }
 
@@ -50,14 +58,17 @@ pub record Shows (old : StoreState) (task rest : Task) (out : List ℕ) : Type 0
 pub record Asks (task rest : Task) (count : ℕ) (out : List ℕ) : Type 0 where
   pub all_come : task.come ≡ task.asked
   pub more : task.asked < bytes_taken task.command
-  pub counted : count ≡ min (bytes_taken task.command - task.asked) BURST_BYTES
+  pub counted : count ≡ min BURST_BYTES (bytes_taken task.command - task.asked)
   pub sent : out ≡ upiu_out (transfer_upiu ReadyToTransfer task.lun task.tag task.asked count)
   pub task_is : rest ≡ record task { asked = task.asked + count }
 
 -- the next block of a write, which has come, was programmed
 pub record Programs (old new : StoreState) (held : List ℕ) (task rest : Task) (start : ℕ) : Type 0 where
   pub more : BLOCK_BYTES * task.programmed < task.come
+  pub starts : start + task.come ≡ BLOCK_BYTES * task.programmed + length held
   pub program : ProgramsBlock old.pages (nth_place task task.programmed) (slice_range held start (start + BLOCK_BYTES)) new.pages
+  pub unit : unit_of old.luns old.units new.pages
+      ≡ slice_set (unit_of old.luns old.units old.pages) (index_of old.units (nth_place task task.programmed)) (slice_range held start (start + BLOCK_BYTES))
   pub task_is : rest ≡ record task { programmed = task.programmed + 1 }
 
 -- all data of a command were moved, and those that came were programmed
@@ -66,20 +77,31 @@ pub record IsComplete (task : Task) : Type 0 where
   pub come : task.come ≡ bytes_taken task.command
   pub programmed : BLOCK_BYTES * task.programmed ≡ task.come
 
--- a command is answered: it is complete, or no page of the chip is erased
+-- no page of the chip is left for a block that has come
+pub record HasNoRoom (old : StoreState) (task : Task) : Type 0 where
+  pub more : BLOCK_BYTES * task.programmed < task.come
+  pub none_erased : erased_count old.pages ≡ 0
+  pub all_used : next_seq old.pages ≡ old.geometry.blocks * old.geometry.pages
+
+-- a command is answered: it is complete, or there is no room
 abbrev pub EndsWith : StoreState → Task → Reply → Type 0
 EndsWith old task reply =
     (IsComplete task × (reply ≡ Good task.lun task.tag (task.expected - task.sent - task.come)))
-    ⊎ ((BLOCK_BYTES * task.programmed < task.come) × (erased_count old.pages ≡ 0) × (reply ≡ check task NoRoom))
+    ⊎ (HasNoRoom old task × (reply ≡ check task NoRoom))
+
+-- a call of the chip failed
+pub record Fails (old new : StoreState) (task : Task) (op : ChipOp) (reply : Reply) : Type 0 where
+  pub cause : Rose old.faults new.faults
+  pub call : op ≡ call_of task.command
+  pub answer : reply ≡ check task (failure_of task.command)
 
 -- What a step of a command came to. `start` is where the next block stands in the data that are held.
-abbrev pub Advances : (old new : StoreState) → (held : List ℕ) → Task → Progress → (out : List ℕ) → Type 0
-Advances old new held task (Shown rest) out = Shows old task rest out × (new.pages ≡ old.pages)
-Advances old new held task (Asked rest) out = (count : ℕ) × Asks task rest count out × (new ≡ old)
-Advances old new held task (Programmed rest) out = (start : ℕ) × Programs old new held task rest start
-Advances old new held task (Ended reply) out = EndsWith old task reply × (new.pages ≡ old.pages)
-Advances old new held task (Failed op reply) out =
-    Rose old.faults new.faults × (reply ≡ check task (failure_of task.command)) × (new.pages ≡ old.pages)
+abbrev pub Advances : (old new : StoreState) → (held held_now : List ℕ) → Task → Progress → (out : List ℕ) → Type 0
+Advances old new held held_now task (Shown rest) out = Shows old task rest out × (new.pages ≡ old.pages) × (held_now ≡ held)
+Advances old new held held_now task (Asked rest) out = (count : ℕ) × Asks task rest count out × (new ≡ old) × (held_now ≡ [])
+Advances old new held held_now task (Programmed rest) out = (start : ℕ) × Programs old new held task rest start × (held_now ≡ held)
+Advances old new held held_now task (Ended reply) out = EndsWith old task reply × (new.pages ≡ old.pages)
+Advances old new held held_now task (Failed op reply) out = Fails old new task op reply × (new.pages ≡ old.pages)
 
 -- the store serves the same blocks of the same chip
 pub record IsSameStore (old new : StoreState) : Type 0 where

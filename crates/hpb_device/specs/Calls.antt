@@ -61,7 +61,7 @@ pub record GoesOn (old new : DeviceState) (result : Stepped) (out : List ℕ) : 
   pub task : Task
   pub progress : Progress
   pub was : old.head ≡ Some task
-  pub advances : Advances old.store new.store old.held task progress out
+  pub advances : Advances old.store new.store old.held new.held task progress out
   pub leaves : Leaves progress new.head result out
   pub same : IsSameStore old.store new.store
   pub calls : MakesACallAtMost old.store new.store

@@ -31,6 +31,7 @@ pub record IsTaskOk (luns units : ℕ) (task : Task) : Type 0 where
   pub lun : task.lun < luns
   pub served : IsServed units task.command
   pub few_blocks : units < 2 ^ 32
+  pub expected_fits : task.expected < 2 ^ 32
   pub fits : bytes_given task.command + bytes_taken task.command ≤ task.expected
   pub asked : task.asked ≤ bytes_taken task.command
   pub whole_asked : task.asked % BLOCK_BYTES ≡ 0

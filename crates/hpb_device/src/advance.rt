@@ -1,5 +1,5 @@
 // One step of the command that is kept.
-ghost use Rattle.std.specs.Prelude.{◌≡◌, ◌+◌, ◌-◌, ◌*◌, ◌<◌, ◌≤◌, ℕ, List, [], length, vec_capacity};
+ghost use Rattle.std.specs.Prelude.{◌≡◌, ◌+◌, ◌-◌, ◌*◌, ◌<◌, ◌≤◌, ℕ, List, length, vec_capacity};
 ghost use Rattle.hpb_device.specs.Task.{IsTaskOk, HoldsData, steps_of};
 ghost use Rattle.hpb_device.specs.Advance.{Advances, AllTasks, IsSameStore, MakesACallAtMost, check};
 
@@ -63,7 +63,7 @@ pub fn advance<F: Flash>(
     requires task { IsTaskOk store.old.luns store.old.units task }
     requires held { HoldsData held.old.items task }
     requires goes { task.come ≡ task.asked }
-    ensures advances { Advances store.old store.new held.old.items task result out.new }
+    ensures advances { Advances store.old store.new held.old.items held.new.items task result out.new }
     ensures ok { AllTasks (IsTaskOk store.old.luns store.old.units) result }
     ensures held { AllTasks (HoldsData held.new.items) result }
     ensures fewer { AllTasks (λ rest. steps_of rest < steps_of task) result }
@@ -94,8 +94,9 @@ fn show<F: Flash>(
 ) -> Progress
     requires task { IsTaskOk store.old.luns store.old.units task }
     requires command { task.command ≡ Cdb.Read lba n }
-    ensures advances { Advances store.old store.new [] task result out.new }
+    ensures advances { (held : List ℕ) → Advances store.old store.new held held task result out.new }
     ensures ok { AllTasks (IsTaskOk store.old.luns store.old.units) result }
+    ensures held { (held : List ℕ) → HoldsData held task → AllTasks (HoldsData held) result }
     ensures fewer { AllTasks (λ rest. steps_of rest < steps_of task) result }
     ensures same { IsSameStore store.old store.new }
     ensures calls { MakesACallAtMost store.old store.new }
@@ -122,7 +123,7 @@ fn program<F: Flash>(store: &mut Store<F>, held: &[u8], task: Task, lba: u32, n:
     requires command { task.command ≡ Cdb.Write lba n }
     requires come { task.come ≡ task.asked }
     requires more { BLOCK_BYTES * task.programmed < task.come }
-    ensures advances { (out : List ℕ) → Advances store.old store.new held.now task result out }
+    ensures advances { (out : List ℕ) → Advances store.old store.new held.now held.now task result out }
     ensures ok { AllTasks (IsTaskOk store.old.luns store.old.units) result }
     ensures held { AllTasks (HoldsData held.now) result }
     ensures fewer { AllTasks (λ rest. steps_of rest < steps_of task) result }
@@ -154,7 +155,7 @@ fn ask<F: Flash>(
     requires command { task.command ≡ Cdb.Write lba n }
     requires come { task.come ≡ task.asked }
     requires programmed { BLOCK_BYTES * task.programmed ≡ task.come }
-    ensures advances { Advances store.now store.now held.old.items task result out.new }
+    ensures advances { Advances store.now store.now held.old.items held.new.items task result out.new }
     ensures ok { AllTasks (IsTaskOk store.now.luns store.now.units) result }
     ensures fewer { AllTasks (λ rest. steps_of rest < steps_of task) result }
     ensures held { AllTasks (HoldsData held.new.items) result }

@@ -1,4 +1,4 @@
-use Rattle.std.proofs.Common.{◌≡◌, ℕ, ◌+◌, ◌/◌, List, arith, sym, rules, refl, ap, ◌∙◌}
+use Rattle.std.proofs.Common.{◌≡◌, ℕ, ◌+◌, ◌/◌, List, length, arith, sym, rules, refl, ap, ◌∙◌}
 use Rattle.flash_pages.specs.Place.{Place}
 use Rattle.flash_pages.specs.Unit.{block_of}
 use Rattle.upiu_wire.specs.Upiu.{upiu_out}
@@ -19,11 +19,13 @@ returns-in-Ok-clause-advances g c =
     let block_at : ℕ → List ℕ =
         λ lba. let p : Place = record { lun = task.lun; lba = lba + task.sent / 4096 } in block_of c.args.store.now.pages p in
     let block = c.in-Ok.ensures.block ∙ ap block_at (sym moves.first) in
-    (
+    λ held. (
       record {
         more = omega (arith, moves.gives);
+        size = ap (λ (lba : ℕ). length (block_at lba)) moves.first ∙ (ap (λ (xs : List ℕ). length xs) (sym c.in-Ok.ensures.block) ∙ c.in-Ok.ensures.size);
         sent = c.put_data_in.ensures.written ∙ ap (λ (bytes : List ℕ). upiu_out (data_upiu DataIn task.lun task.tag task.sent bytes)) block;
         task_is = refl;
       },
       search rules,
+      refl,
     )

@@ -1,10 +1,13 @@
 -- Where a device stands in a history.
-use Rattle.std.specs.Prelude.{ℕ, true, List, [], ◌∷◌, Option}
-use Rattle.std.specs.Option.{option_map_or}
+use Rattle.std.specs.Prelude.{ℕ, true, List, [], ◌∷◌, Option, Some, None, if◌then◌else◌}
+use Rattle.std.specs.Option.{option_map, option_map_or}
 use Rattle.flash_pages.specs.Unit.{unit_of, next_seq}
 use Rattle.flat_unit.specs.declared.event.Event.{Event}
 use Rattle.flat_unit.specs.declared.event.Event.TheVariants.{Device}
+use Rattle.flash_pages.specs.Place.{Place}
 use Rattle.flat_unit.specs.History.{History}
+use Rattle.flat_unit.specs.Replays.{Group}
+use Rattle.hpb_device.specs.declared.device.Stepped.{Stepped}
 use Rattle.flat_unit.specs.Sizes.{Sizes}
 use Rattle.flat_unit.specs.Stands.{First, Kept, Stands}
 use Rattle.flat_unit.specs.Task.{Task as Waiting}
@@ -43,3 +46,11 @@ pub record DeviceStands (device : DeviceState) (first : First) (e : History) : T
 abbrev pub answer_events : Sent → List ℕ → List Event
 answer_events Nothing out = []
 answer_events Upiu out = Device out ∷ []
+
+-- what one step made
+abbrev pub group_of : Stepped → List ℕ → Group
+group_of result out = record {
+  failed = result.failed;
+  moved = option_map (λ (place : ℕ × ℕ). record { lun = place.0; lba = place.1 }) result.moved;
+  sent = if result.sent then Some out else None;
+}

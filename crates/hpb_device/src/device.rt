@@ -4,6 +4,7 @@ ghost use Rattle.flash_pages.specs.Chip.{erased_chip};
 ghost use Rattle.region_state.specs.Shape.{IsWithinLimits};
 ghost use Rattle.flat_unit.specs.declared.event.Event.TheVariants.{Host};
 ghost use Rattle.flat_unit.specs.History.{History, ◌▹◌, followed_by};
+ghost use Rattle.flat_unit.specs.Replays.{events_of};
 ghost use Rattle.flat_unit.specs.Sound.{answers_to};
 ghost use Rattle.flat_unit.specs.Stands.{First};
 ghost use Rattle.flat_unit.specs.Task.{Task as Waiting};
@@ -106,7 +107,7 @@ impl<F: Flash> Device<F> {
     ghost use Rattle.hpb_device.specs.Accept.{IsNextPiece};
     ghost use Rattle.hpb_device.specs.Calls.{Receives, Steps, TakesData};
     ghost use Rattle.hpb_device.specs.Keeps.{KeepsTasks};
-    ghost use Rattle.hpb_device.specs.Standing.{DeviceStands, sizes_of, answer_events};
+    ghost use Rattle.hpb_device.specs.Standing.{DeviceStands, sizes_of, answer_events, group_of};
 
     /// A device of `luns` logical units, each of this shape, over an erased chip. It takes all its memory here.
     ///
@@ -209,6 +210,8 @@ impl<F: Flash> Device<F> {
 
     /// One step of the head task. It makes at most one call of the chip and sends at most one UPIU, in `out`.
     pub fn step(&mut self, out: &mut UpiuBuf) -> Stepped
+        ensures stands { (first : First) (e : History) → DeviceStands self.old first e
+            → DeviceStands self.new first (followed_by e (events_of (group_of result out.new))) }
         ensures idle { IsTrue result.idle ↔ AtRest self.old }
         ensures unchanged { IsTrue result.idle → self.new ≡ self.old }
         ensures steps { Steps self.old self.new result out.new }
@@ -222,7 +225,11 @@ impl<F: Flash> Device<F> {
             return Stepped::idle();
         }
         match advance(&mut self.store, &mut self.held, task, out) {
-            Progress::Shown(rest) | Progress::Asked(rest) => {
+            Progress::Shown(rest) => {
+                self.head = Some(rest);
+                Stepped::of_task(None, true)
+            }
+            Progress::Asked(rest) => {
                 self.head = Some(rest);
                 Stepped::of_task(None, true)
             }

@@ -2,3 +2,5 @@ pub mod Bytes
 pub mod Reading
 pub mod Writing
 pub mod Refusing
+pub mod Requests
+pub mod Tracing

@@ -15,7 +15,7 @@ use Rattle.flat_unit.specs.Sound.{IsCandidate}
 use Rattle.flat_unit.specs.Stands.{Kept, First, HoldsAt, HasProgress, Stands}
 use Rattle.flat_unit.specs.Task.{Task}
 use Rattle.flat_unit.specs.Writes.{blocks_ended, blocks_of_head}
-use Rattle.flat_unit.proofs.Laws.{upiu_at-out, sent_sound}
+use Rattle.flat_unit.proofs.History.{upiu_at-out, sent_sound}
 
 -- what a UPIU of the device does to these tasks
 pub device_changes : (s : Sizes) (on : Bool) (tasks : List Task) (v : Upiu) → IsConsistent v → tasks_changed s on tasks (Device (upiu_out v)) ≡ after_sent v v.kind tasks

@@ -33,7 +33,7 @@ use Rattle.flat_unit.specs.Task.{Task}
 use Rattle.flat_unit.specs.Tasks.{IsQueue, IsServed}
 use Rattle.flat_unit.specs.Writes.{blocks_ended, blocks_of_head, whole_blocks}
 use Rattle.flat_unit.proofs.Goes.{IsHarmless, data_shows, goes_asked, goes_data, goes_ended, goes_harmless, goes_shown, leaves_cut, leaves_good, leaves_no_write, stays_block, left_with, no_progress, none_programmed, with_tasks}
-use Rattle.flat_unit.proofs.Laws.{comes, data-consistent, kept_of_kind, owes_reply, ready-consistent, received_answered, received_kept, reject-consistent, response-consistent}
+use Rattle.flat_unit.proofs.History.{comes, data-consistent, kept_of_kind, owes_reply, ready-consistent, received_answered, received_kept, reject-consistent, response-consistent}
 use Rattle.flat_unit.proofs.Moves.{Goes, device_changes, ends_on, fold_left, holds_on, stands_sent}
 use Rattle.flat_unit.proofs.Numbers.{more_blocks, range-append, same_lba, same_lun, within_bytes, within_luns}
 use Rattle.flat_unit.proofs.Queue.{none_has, others_stay, queue_after}

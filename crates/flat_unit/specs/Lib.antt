@@ -21,3 +21,4 @@ pub mod Hints
 pub mod Entries
 pub mod Counts
 pub mod Replays
+pub mod Laws

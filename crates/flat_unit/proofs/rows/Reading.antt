@@ -1,18 +1,15 @@
 -- A block that was never written reads as zeros.
-use Rattle.std.proofs.Common.{◌≡◌, ◌<◌, ◌+◌, ◌-◌, ℕ, zero, suc, List, [], ◌∷◌, Option, Some, None, refl, arith, sym, ◌∙◌, ap, subst, length, slice_index, replicate, inl, inr}
-use Rattle.flat_unit.specs.declared.event.Event.{Event}
+use Rattle.std.proofs.Common.{◌≡◌, [], ◌∷◌, refl, arith, replicate}
 use Rattle.flat_unit.specs.declared.event.Event.TheVariants.{Host, Device}
 use Rattle.hpb_cdb.specs.declared.cdb.Cdb.TheVariants.{Read}
 use Rattle.hpb_cdb.specs.Read.{cdb_of}
 use Rattle.upiu_wire.specs.Kind.{kind_of}
 use Rattle.upiu_wire.specs.Upiu.{upiu_at, upiu_out}
 use Rattle.upiu_wire.specs.WireFault.{wire_fault_of}
-use Rattle.flat_unit.specs.Contents.{Block}
 use Rattle.flat_unit.specs.History.{History, ◌▹◌}
 use Rattle.flat_unit.specs.Queue.{tasks_after}
 use Rattle.flat_unit.specs.Reply.{reply_of, effects_of}
 use Rattle.flat_unit.specs.Sends.{Answer, Data, Ask, Good, Check, Allows, upiu_of}
-use Rattle.flat_unit.specs.Sizes.{Sizes}
 use Rattle.flat_unit.specs.Sound.{Sound}
 use Rattle.flat_unit.specs.Task.{Task}
 use Rattle.flat_unit.proofs.rows.Bytes.{sizes, block_of, differ_at, only_candidate, blank_unit, read, data_in, good, good_short}

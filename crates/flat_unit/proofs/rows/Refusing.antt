@@ -1,17 +1,15 @@
 -- What is answered at once: bytes that are no UPIU, commands that are refused, and data that weren't asked for.
-use Rattle.std.proofs.Common.{◌≡◌, ◌<◌, ◌+◌, ℕ, zero, suc, List, [], ◌∷◌, ◌++◌, Option, Some, None, refl, arith, length, replicate}
-use Rattle.flat_unit.specs.declared.event.Event.{Event}
+use Rattle.std.proofs.Common.{◌≡◌, ℕ, zero, suc, [], ◌++◌, refl, arith, replicate}
 use Rattle.flat_unit.specs.declared.event.Event.TheVariants.{Host, Device}
 use Rattle.hpb_cdb.specs.Read.{cdb_of}
 use Rattle.upiu_wire.specs.Kind.{kind_of}
 use Rattle.upiu_wire.specs.Upiu.{upiu_at, upiu_out}
 use Rattle.upiu_wire.specs.WireFault.{wire_fault_of}
 use Rattle.flat_unit.specs.History.{History, ◌▹◌}
-use Rattle.flat_unit.specs.Queue.{tasks_after}
 use Rattle.flat_unit.specs.Reply.{reply_of, effects_of}
 use Rattle.flat_unit.specs.Sends.{Data, Ask, Good}
 use Rattle.flat_unit.specs.Sound.{Sound, owed}
-use Rattle.flat_unit.proofs.rows.Bytes.{sizes, block_of, blank_unit, differ_at, place, z, four, read, write, test_ready, data_in, data_out, ready, good, good_short, check_with, reject}
+use Rattle.flat_unit.proofs.rows.Bytes.{sizes, block_of, blank_unit, differ_at, z, four, read, write, test_ready, data_in, data_out, ready, good, good_short, check_with, reject}
 
 -- reads at the end of the unit: in range, past it, of no blocks, and of none past it
 abbrev at_the_end : History

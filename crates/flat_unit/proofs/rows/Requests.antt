@@ -1,18 +1,15 @@
 -- Requests beside commands: a task that goes, and a reset of HPB, which the next GOOD RESPONSE tells.
-use Rattle.std.proofs.Common.{◌≡◌, ◌<◌, ◌+◌, ℕ, List, [], ◌∷◌, ◌++◌, Option, Some, None, refl, arith, length, replicate}
-use Rattle.flat_unit.specs.declared.event.Event.{Event}
-use Rattle.flat_unit.specs.declared.event.Event.TheVariants.{Host, Device, Cleared, Switched, Gone}
+use Rattle.std.proofs.Common.{◌≡◌, ℕ, List, [], ◌++◌, refl, arith, replicate}
+use Rattle.flat_unit.specs.declared.event.Event.TheVariants.{Host, Device, Cleared, Gone}
 use Rattle.hpb_cdb.specs.Read.{cdb_of}
 use Rattle.region_state.specs.declared.shape.Mode.TheVariants.{Device as DeviceMode}
 use Rattle.region_state.specs.declared.shape.Shape.{Shape}
-use Rattle.region_state.specs.Machine.{after_all_inactive, after_reset, after_read, after_change, after_told, due}
+use Rattle.region_state.specs.Machine.{after_all_inactive, after_reset, after_told, due}
 use Rattle.upiu_wire.specs.Kind.{kind_of}
 use Rattle.upiu_wire.specs.Upiu.{upiu_at, upiu_out}
 use Rattle.upiu_wire.specs.WireFault.{wire_fault_of}
-use Rattle.flat_unit.specs.Contents.{Block}
 use Rattle.flat_unit.specs.Hints.{Hinted, hint_of, after_take}
 use Rattle.flat_unit.specs.History.{History, ◌▹◌}
-use Rattle.flat_unit.specs.Queue.{tasks_after}
 use Rattle.flat_unit.specs.Reply.{reply_of, effects_of}
 use Rattle.flat_unit.specs.Sends.{Data, Ask, Good}
 use Rattle.flat_unit.specs.Sound.{Sound, owed}

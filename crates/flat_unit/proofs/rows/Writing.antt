@@ -1,6 +1,5 @@
 -- Blocks that are written read back, and those of a write that a reset cut are old or new.
-use Rattle.std.proofs.Common.{◌≡◌, ◌<◌, ◌+◌, ◌*◌, ℕ, List, [], ◌∷◌, ◌++◌, Option, Some, None, refl, arith, length, slice_index, replicate, inl, inr}
-use Rattle.flat_unit.specs.declared.event.Event.{Event}
+use Rattle.std.proofs.Common.{◌≡◌, ℕ, [], ◌∷◌, refl, arith, replicate}
 use Rattle.flat_unit.specs.declared.event.Event.TheVariants.{Host, Device, Reset}
 use Rattle.hpb_cdb.specs.Read.{cdb_of}
 use Rattle.upiu_wire.specs.Kind.{kind_of}
@@ -8,7 +7,6 @@ use Rattle.upiu_wire.specs.Upiu.{upiu_at, upiu_out}
 use Rattle.upiu_wire.specs.WireFault.{wire_fault_of}
 use Rattle.flat_unit.specs.Contents.{Block, candidates}
 use Rattle.flat_unit.specs.History.{History, ◌▹◌}
-use Rattle.flat_unit.specs.Queue.{tasks_after}
 use Rattle.flat_unit.specs.Reply.{reply_of, effects_of}
 use Rattle.flat_unit.specs.Sends.{Data, Ask, Good}
 use Rattle.flat_unit.specs.Sound.{Sound}

@@ -1,0 +1,5 @@
+use Rattle.flat_unit.proofs.Subject.{moves_needed}
+use Rattle.flat_unit.proofs.laws.given_and_taken.Goals as goal
+
+pub returns : goal.returns
+returns c = moves_needed

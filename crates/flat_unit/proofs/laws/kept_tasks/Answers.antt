@@ -1,0 +1,5 @@
+use Rattle.flat_unit.proofs.Queue.{queue_after}
+use Rattle.flat_unit.proofs.laws.kept_tasks.Goals as goal
+
+pub returns : goal.returns
+returns c = queue_after

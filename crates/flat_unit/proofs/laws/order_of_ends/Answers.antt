@@ -1,0 +1,5 @@
+use Rattle.flat_unit.proofs.Subject.{first_ends}
+use Rattle.flat_unit.proofs.laws.order_of_ends.Goals as goal
+
+pub returns : goal.returns
+returns c = first_ends

@@ -1,0 +1,60 @@
+-- Words for what holds of all histories.
+use Rattle.std.specs.Prelude.{◌≡◌, ◌<◌, ℕ, zero, suc, ◌+◌, Bool, List, [], ◌∷◌, length, Option, Some, None, if◌then◌else◌}
+use Rattle.std.specs.List.{AllByRecursion}
+use Rattle.flash_pages.specs.Place.{Place}
+use Rattle.flat_unit.specs.declared.event.Event.{Event}
+use Rattle.flat_unit.specs.declared.event.Event.TheVariants.{Host, Device, Moved, Failed, Cleared, Switched, Gone}
+use Rattle.flat_unit.specs.Command.{bytes_given, bytes_taken}
+use Rattle.flat_unit.specs.Contents.{Leaving, Shown, shown}
+use Rattle.flat_unit.specs.History.{History}
+use Rattle.flat_unit.specs.Queue.{tasks_after}
+use Rattle.flat_unit.specs.Replays.{keeps_head}
+use Rattle.flat_unit.specs.Sizes.{Sizes}
+use Rattle.flat_unit.specs.Task.{Task}
+
+-- the task comes first among these
+abbrev pub IsFirst : Task → List Task → Type 0
+IsFirst task tasks = (others : List Task) × (tasks ≡ task ∷ others)
+
+-- at most one task leaves, and that is the first one
+abbrev pub FirstAlone : List Task → List Leaving → Type 0
+FirstAlone tasks [] = Unit {0}
+FirstAlone tasks (l ∷ []) = IsFirst l.task tasks
+FirstAlone tasks (l ∷ _ ∷ _) = ⊥
+
+-- the numbers of an event have room where they are printed
+abbrev pub HasRoom : Event → Type 0
+HasRoom (Host bytes) = AllByRecursion (λ (b : ℕ). b < 256) bytes
+HasRoom (Device bytes) = AllByRecursion (λ (b : ℕ). b < 256) bytes
+HasRoom (Moved lun lba) = (lun < 256) × (lba < 4294967296)
+HasRoom (Gone tag) = tag < 256
+HasRoom _ = Unit {0}
+
+-- what the first task has shown, the newest first
+abbrev pub shown_next : Option Shown → Bool → List Shown → List Shown
+shown_next (Some w) stays before = w ∷ before
+shown_next None stays before = if stays then before else []
+
+abbrev pub shown_by_first : Sizes → History → List Shown
+shown_by_first s [] = []
+shown_by_first s (x ∷ e) =
+    shown_next (shown s (tasks_after s e) x) (keeps_head (tasks_after s e) (tasks_after s (x ∷ e))) (shown_by_first s e)
+
+-- the first blocks of a read, the last one first
+abbrev pub places_from : ℕ → ℕ → ℕ → List Place
+places_from lun lba zero = []
+places_from lun lba (suc k) = record { lun = lun; lba = lba + k } ∷ places_from lun lba k
+
+-- bytes of the host, collection and failed calls change no block
+abbrev pub ChangesNothing : Event → Type 0
+ChangesNothing (Host bytes) = Unit {0}
+ChangesNothing (Moved lun lba) = Unit {0}
+ChangesNothing (Failed op) = Unit {0}
+ChangesNothing Cleared = Unit {0}
+ChangesNothing (Switched on) = Unit {0}
+ChangesNothing _ = ⊥
+
+-- the task has moved all its bytes
+pub record MovedAll (s : Sizes) (task : Task) : Type 0 where
+  pub sent : task.sent ≡ bytes_given s task.command
+  pub come : length task.come ≡ bytes_taken s task.command

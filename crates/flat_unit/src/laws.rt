@@ -1,0 +1,65 @@
+//! What holds of all histories. Each function does nothing: its contract is the law.
+ghost use Rattle.std.specs.Prelude.{◌≡◌, ◌<◌, ◌+◌, ℕ, true, List, [], ◌∷◌, Some, length, slice_range};
+ghost use Rattle.flash_pages.specs.Place.{Place};
+ghost use Rattle.hpb_cdb.specs.Cdb.{needed_by};
+ghost use Rattle.hpb_cdb.specs.declared.cdb.Cdb.{Cdb};
+ghost use Rattle.hpb_cdb.specs.declared.cdb.Cdb.TheVariants.{Write};
+ghost use Rattle.flat_unit.specs.declared.event.Event.{Event};
+ghost use Rattle.flat_unit.specs.declared.event.Event.TheVariants.{Device};
+ghost use Rattle.flat_unit.specs.Command.{needed};
+ghost use Rattle.flat_unit.specs.Contents.{Block, Shown, candidates, is_among, leaving, offset_in, shown};
+ghost use Rattle.flat_unit.specs.History.{History, ◌▹◌};
+ghost use Rattle.flat_unit.specs.Laws.{ChangesNothing, FirstAlone, MovedAll};
+ghost use Rattle.flat_unit.specs.Queue.{tasks_after};
+ghost use Rattle.flat_unit.specs.Sizes.{Sizes, limits_of};
+ghost use Rattle.flat_unit.specs.Sound.{SoundSoFar};
+ghost use Rattle.flat_unit.specs.Task.{Task};
+ghost use Rattle.flat_unit.specs.Tasks.{IsQueue};
+
+/// No two kept tasks have one tag, those behind the first have moved nothing, and each is one that the unit has.
+pub fn kept_tasks()
+    ensures { (s : Sizes) (e : History) → IsQueue s (tasks_after s e) }
+{}
+
+/// Tasks end in order of acceptance: what the device sends ends the first task at most.
+pub fn order_of_ends()
+    ensures { (s : Sizes) (u : List Block) (e : History) (bytes : List ℕ)
+        → SoundSoFar s u (e ▹ Device bytes) → FirstAlone (tasks_after s e) (leaving (tasks_after s e) (Device bytes)) }
+{}
+
+/// A task that is answered GOOD has moved all its bytes.
+pub fn good_moves_all()
+    ensures { (s : Sizes) (u : List Block) (e : History) (bytes : List ℕ) (task : Task)
+        → SoundSoFar s u (e ▹ Device bytes) → leaving (tasks_after s e) (Device bytes) ≡ record { task = task; good = true } ∷ []
+        → MovedAll s task }
+{}
+
+/// At each place some block is allowed.
+pub fn some_block_is_allowed()
+    ensures { (s : Sizes) (u : List Block) (e : History) (p : Place) → 0 < length (candidates s u e p) }
+{}
+
+/// After a write was answered GOOD each of its places has its block alone.
+pub fn good_write_stands_alone()
+    ensures { (s : Sizes) (u : List Block) (e : History) (bytes : List ℕ) (task : Task) (lba n : ℕ) (p : Place)
+        → SoundSoFar s u (e ▹ Device bytes) → leaving (tasks_after s e) (Device bytes) ≡ record { task = task; good = true } ∷ []
+        → task.command ≡ Write lba n → is_among task.lun lba n p ≡ true
+        → candidates s u (e ▹ Device bytes) p ≡ slice_range task.come (offset_in s lba p) (offset_in s lba p + s.block) ∷ [] }
+{}
+
+/// What a read has shown stands alone.
+pub fn shown_block_stands_alone()
+    ensures { (s : Sizes) (u : List Block) (e : History) (x : Event) (w : Shown)
+        → shown s (tasks_after s e) x ≡ Some w → candidates s u (e ▹ x) w.place ≡ w.block ∷ [] }
+{}
+
+/// Bytes of the host, collection, failed calls and what a query request does change no block.
+pub fn other_events_change_no_block()
+    ensures { (s : Sizes) (u : List Block) (e : History) (x : Event) (p : Place)
+        → ChangesNothing x → candidates s u (e ▹ x) p ≡ candidates s u e p }
+{}
+
+/// The bytes that a command gives and takes are those that it needs.
+pub fn given_and_taken()
+    ensures { (s : Sizes) (command : Cdb) → s.block ≡ 4096 → needed s command ≡ needed_by (limits_of s) command }
+{}

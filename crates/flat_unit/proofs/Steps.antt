@@ -71,7 +71,7 @@ pub queue_of : (s : Sizes) (first : First) (kept : Kept) (e : History) → Stand
 queue_of s first kept e at = subst (IsQueue s) at.keeps (queue_after s e)
 
 -- what is programmed has come
-progress_within : (s : Sizes) (programmed : ℕ) (tasks : List Task) → HasProgress s programmed tasks → programmed ≤ blocks_of_head s tasks
+pub progress_within : (s : Sizes) (programmed : ℕ) (tasks : List Task) → HasProgress s programmed tasks → programmed ≤ blocks_of_head s tasks
 progress_within s programmed [] is = omega arith
 progress_within s programmed (task ∷ _) is = by_command task.command task is
   where

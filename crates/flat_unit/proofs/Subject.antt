@@ -182,11 +182,12 @@ reply_ends s on tasks bytes queue = by_fault (wire_fault_of bytes)
     by_fault None = kind_ends (upiu_at bytes).kind s on tasks (upiu_at bytes) queue
 
 -- no event that follows a reply is a UPIU
-abbrev IsRequested : Event → Type 0
+abbrev pub IsRequested : Event → Type 0
 IsRequested (Device bytes) = ⊥
+IsRequested (Host bytes) = ⊥
 IsRequested _ = Unit {0}
 
-abbrev AreRequested : List Event → Type 0
+abbrev pub AreRequested : List Event → Type 0
 AreRequested xs = AllByRecursion IsRequested xs
 
 requested : (kind : Kind) (s : Sizes) (on : Bool) (tasks : List Task) (v : Upiu) → AreRequested (effects_by_kind kind s on tasks v)
@@ -213,7 +214,7 @@ requested ManageRequest s on tasks v = elim s.manages as (λ b. AreRequested (if
     all_gone (t ∷ ts) = (tt, all_gone ts)
 requested _ s on tasks v = tt
 
-effects_requested : (s : Sizes) (on : Bool) (tasks : List Task) (bytes : List ℕ) → AreRequested (effects_of s on tasks bytes)
+pub effects_requested : (s : Sizes) (on : Bool) (tasks : List Task) (bytes : List ℕ) → AreRequested (effects_of s on tasks bytes)
 unfolding effects_of
 effects_requested s on tasks bytes = by_fault (wire_fault_of bytes)
   where

@@ -1,7 +1,8 @@
 -- Words for what holds of all histories.
-use Rattle.std.specs.Prelude.{◌≡◌, ◌<◌, ℕ, zero, suc, ◌+◌, Bool, List, [], ◌∷◌, length, Option, Some, None, if◌then◌else◌}
+use Rattle.std.specs.Prelude.{◌≡◌, ◌<◌, ◌^◌, ℕ, zero, suc, ◌+◌, Bool, List, [], ◌∷◌, length, Option, Some, None, if◌then◌else◌}
 use Rattle.std.specs.List.{AllByRecursion}
 use Rattle.flash_pages.specs.Place.{Place}
+use Rattle.hex.specs.Hex.{IsBytes}
 use Rattle.flat_unit.specs.declared.event.Event.{Event}
 use Rattle.flat_unit.specs.declared.event.Event.TheVariants.{Host, Device, Moved, Failed, Cleared, Switched, Gone}
 use Rattle.flat_unit.specs.Command.{bytes_given, bytes_taken}
@@ -24,11 +25,15 @@ FirstAlone tasks (l ∷ _ ∷ _) = ⊥
 
 -- the numbers of an event have room where they are printed
 abbrev pub HasRoom : Event → Type 0
-HasRoom (Host bytes) = AllByRecursion (λ (b : ℕ). b < 256) bytes
-HasRoom (Device bytes) = AllByRecursion (λ (b : ℕ). b < 256) bytes
-HasRoom (Moved lun lba) = (lun < 256) × (lba < 4294967296)
-HasRoom (Gone tag) = tag < 256
+HasRoom (Host bytes) = IsBytes bytes
+HasRoom (Device bytes) = IsBytes bytes
+HasRoom (Moved lun lba) = (lun < 2 ^ 8) × (lba < 2 ^ 32)
+HasRoom (Gone tag) = tag < 2 ^ 8
 HasRoom _ = Unit {0}
+
+-- those of each event
+abbrev pub HaveRoom : History → Type 0
+HaveRoom e = AllByRecursion HasRoom e
 
 -- what the first task has shown, the newest first
 abbrev pub shown_next : Option Shown → Bool → List Shown → List Shown

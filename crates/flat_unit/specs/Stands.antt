@@ -1,13 +1,14 @@
 -- A device stands at a history: its tasks are those that the history keeps, each block of its unit is one that the flat
 -- unit allows, and the history is sound and has its causes.
-use Rattle.std.specs.Prelude.{◌≡◌, ◌≤◌, ℕ, ◌+◌, Bool, false, List, [], ◌∷◌, Contains, MatchBool, Option, Some, None}
+use Rattle.std.specs.Prelude.{◌≡◌, ◌≤◌, ℕ, ◌+◌, Bool, false, List, [], ◌∷◌, Contains, MatchBool, if◌then◌else◌, Option, Some, None}
 use Rattle.flash_pages.specs.Place.{Place, IsPlace}
 use Rattle.hpb_cdb.specs.declared.cdb.Cdb.{Cdb}
 use Rattle.hpb_cdb.specs.declared.cdb.Cdb.TheVariants.{Write}
 use Rattle.flat_unit.specs.Causes.{Caused}
 use Rattle.flat_unit.specs.Contents.{Block, block_at, block_written, is_among, candidates}
 use Rattle.flat_unit.specs.History.{History}
-use Rattle.flat_unit.specs.Queue.{on_after, tasks_after}
+use Rattle.flat_unit.specs.Queue.{on_after, tasks_after, without_tag}
+use Rattle.flat_unit.specs.Reply.{has_tag}
 use Rattle.flat_unit.specs.Sizes.{Sizes}
 use Rattle.flat_unit.specs.Sound.{Sound}
 use Rattle.flat_unit.specs.Task.{Task}
@@ -76,3 +77,24 @@ pub record StandsForeign (s : Sizes) (first : First) (kept : Kept) (e : History)
   pub switch : on_after e ≡ kept.on
   pub sound : Sound s first.unit e
   pub caused : Caused s (Unit {0}) first.next e
+
+-- all of it but that the history is sound: what holds while a request still owes some of its events
+pub record StandsButSound (s : Sizes) (first : First) (kept : Kept) (e : History) : Type 0 where
+  pub keeps : tasks_after s e ≡ kept.tasks
+  pub switch : on_after e ≡ kept.on
+  pub progress : HasProgress s kept.programmed kept.tasks
+  pub holds : Holds s kept first.unit e
+  pub at_least : first.next + moves e + blocks_good s e + kept.programmed ≤ kept.next
+  pub at_most : kept.next + blocks_of_head s kept.tasks ≤ first.next + moves e + blocks_come s e + kept.programmed
+  pub caused : Caused s ⊥ first.next e
+
+-- the task with a tag goes, and what was programmed for it is forgotten
+abbrev pub first_has : ℕ → List Task → Bool
+first_has tag [] = false
+first_has tag (task ∷ _) = has_tag tag task
+
+abbrev pub gone_from : ℕ → Kept → Kept
+gone_from tag kept = record kept {
+  tasks = without_tag tag kept.tasks;
+  programmed = if first_has tag kept.tasks then 0 else kept.programmed;
+}

@@ -9,7 +9,8 @@ ghost use Rattle.flat_unit.specs.declared.event.Event.TheVariants.{Device};
 ghost use Rattle.flat_unit.specs.Command.{needed};
 ghost use Rattle.flat_unit.specs.Contents.{Block, Shown, candidates, is_among, leaving, offset_in, shown};
 ghost use Rattle.flat_unit.specs.History.{History, ◌▹◌};
-ghost use Rattle.flat_unit.specs.Laws.{ChangesNothing, FirstAlone, MovedAll};
+ghost use Rattle.flat_unit.specs.Laws.{ChangesNothing, FirstAlone, HaveRoom, MovedAll};
+ghost use Rattle.flat_unit.specs.Print.{print};
 ghost use Rattle.flat_unit.specs.Queue.{tasks_after};
 ghost use Rattle.flat_unit.specs.Sizes.{Sizes, limits_of};
 ghost use Rattle.flat_unit.specs.Sound.{SoundSoFar};
@@ -62,4 +63,9 @@ pub fn other_events_change_no_block()
 /// The bytes that a command gives and takes are those that it needs.
 pub fn given_and_taken()
     ensures { (s : Sizes) (command : Cdb) → s.block ≡ 4096 → needed s command ≡ needed_by (limits_of s) command }
+{}
+
+/// Two different histories have different texts.
+pub fn texts_tell_histories()
+    ensures { (e f : History) → HaveRoom e → HaveRoom f → print e ≡ print f → e ≡ f }
 {}

@@ -193,7 +193,7 @@ response_leaves task others status residual segment alone =
     ap (λ (b : Bool). leaving_all (status == 0) (cond b (task ∷ filter (has_tag task.tag) others) (filter (has_tag task.tag) others))) (same_tag task.tag)
     ∙ ap (λ (ts : List Task). leaving_all (status == 0) (task ∷ ts)) (none_has task.tag others alone)
 
-response_changes : (task : Task) (others : List Task) (status residual : ℕ) (segment : List ℕ) → IsAlone task others
+pub response_changes : (task : Task) (others : List Task) (status residual : ℕ) (segment : List ℕ) → IsAlone task others
     → after_sent (response_upiu task.lun task.tag status residual segment) Response (task ∷ others) ≡ others
 response_changes task others status residual segment alone =
     ap (λ (b : Bool). cond (not b) (task ∷ without_tag task.tag others) (without_tag task.tag others)) (same_tag task.tag)

@@ -109,12 +109,17 @@ sent_first s (task ∷ others) bytes queue (a, allows, is) =
     by_answer (Good segment) = subst (FirstAlone (task ∷ others)) (sym (first_leaves true task others task.tag refl queue.apart.0)) (others, refl)
     by_answer (Check sense) = subst (FirstAlone (task ∷ others)) (sym (first_leaves false task others task.tag refl queue.apart.0)) (others, refl)
 
+-- no reply is DATA IN
+abbrev pub IsNoData : Kind → Type 0
+IsNoData DataIn = ⊥
+IsNoData _ = Unit {0}
+
 -- a reply ends the first task at most
 record Ends (tasks : List Task) (o : Option Upiu) : Type 0 where
-  ends : (r : Upiu) → o ≡ Some r → EndsBadly tasks (answered r r.kind tasks)
+  ends : (r : Upiu) → o ≡ Some r → EndsBadly tasks (answered r r.kind tasks) × IsNoData r.kind
 
-only_ends : (tasks : List Task) (v : Upiu) → EndsBadly tasks (answered v v.kind tasks) → Ends tasks (Some v)
-only_ends tasks v alone = record { ends = λ r is. let same : v ≡ r = cc in subst (λ (u : Upiu). EndsBadly tasks (answered u u.kind tasks)) same alone }
+only_ends : (tasks : List Task) (v : Upiu) → EndsBadly tasks (answered v v.kind tasks) → IsNoData v.kind → Ends tasks (Some v)
+only_ends tasks v alone kind = record { ends = λ r is. let same : v ≡ r = cc in subst (λ (u : Upiu). EndsBadly tasks (answered u u.kind tasks) × IsNoData u.kind) same (alone, kind) }
 
 none_ends : (tasks : List Task) → Ends tasks None
 none_ends tasks = record { ends = λ r is. absurd (no_reply r is) }
@@ -128,23 +133,23 @@ either tasks false f g = g refl
 
 command_ends : (s : Sizes) (on : Bool) (tasks : List Task) (v : Upiu) → Ends tasks (command_refusal s on tasks v)
 command_ends s on tasks v =
-    either tasks (list_any (has_tag v.tag) tasks) (λ _. only_ends tasks _ tt) (λ none.
-    either tasks (nat_le s.luns v.lun) (λ _. only_ends tasks _ (badly_none tasks v.tag none)) (λ _.
-    either tasks (nat_le s.room (length tasks)) (λ _. only_ends tasks _ (badly_none tasks v.tag none)) (λ _.
+    either tasks (list_any (has_tag v.tag) tasks) (λ _. only_ends tasks _ tt tt) (λ none.
+    either tasks (nat_le s.luns v.lun) (λ _. only_ends tasks _ (badly_none tasks v.tag none) tt) (λ _.
+    either tasks (nat_le s.room (length tasks)) (λ _. only_ends tasks _ (badly_none tasks v.tag none) tt) (λ _.
     by_cdb (command_of s v.cdb) none)))
   where
     by_cdb : (r : Result Cdb CdbFault) → list_any (has_tag v.tag) tasks ≡ false → Ends tasks (refusal_of_cdb s on v r)
-    by_cdb (Err fault) none = only_ends tasks _ (badly_none tasks v.tag none)
+    by_cdb (Err fault) none = only_ends tasks _ (badly_none tasks v.tag none) tt
     by_cdb (Ok command) none =
-        either tasks (is_hpb command && not on) (λ _. only_ends tasks _ (badly_none tasks v.tag none)) (λ _.
-        either tasks (nat_lt v.first (needed s command)) (λ _. only_ends tasks _ (badly_none tasks v.tag none)) (λ _. none_ends tasks))
+        either tasks (is_hpb command && not on) (λ _. only_ends tasks _ (badly_none tasks v.tag none) tt) (λ _.
+        either tasks (nat_lt v.first (needed s command)) (λ _. only_ends tasks _ (badly_none tasks v.tag none) tt) (λ _. none_ends tasks))
 
 data_ends : (s : Sizes) (tasks : List Task) (v : Upiu) → IsQueue s tasks → Ends tasks (data_refusal tasks v)
-data_ends s [] v queue = only_ends [] _ tt
+data_ends s [] v queue = only_ends [] _ tt tt
 data_ends s (task ∷ others) v queue =
-    either (task ∷ others) (not (waits_for_data task && ((task.lun == v.lun) && (task.tag == v.tag)))) (λ _. only_ends (task ∷ others) _ tt) (λ mine.
+    either (task ∷ others) (not (waits_for_data task && ((task.lun == v.lun) && (task.tag == v.tag)))) (λ _. only_ends (task ∷ others) _ tt tt) (λ mine.
     either (task ∷ others) (is_next_piece task v) (λ _. none_ends (task ∷ others)) (λ _.
-    only_ends (task ∷ others) _ (badly_first task others v.tag (sym (eqb-true task.tag v.tag (third _ _ _ mine))) queue.apart.0)))
+    only_ends (task ∷ others) _ (badly_first task others v.tag (sym (eqb-true task.tag v.tag (third _ _ _ mine))) queue.apart.0) tt))
   where
     third : (a b c : Bool) → not (a && (b && c)) ≡ false → c ≡ true
     third true true true is = refl
@@ -153,25 +158,25 @@ data_ends s (task ∷ others) v queue =
     third false b c is = cc
 
 kind_ends : (kind : Kind) (s : Sizes) (on : Bool) (tasks : List Task) (v : Upiu) → IsQueue s tasks → Ends tasks (reply_by_kind kind s on tasks v)
-kind_ends NopOut s on tasks v queue = only_ends tasks _ tt
+kind_ends NopOut s on tasks v queue = only_ends tasks _ tt tt
 kind_ends Command s on tasks v queue = command_ends s on tasks v
 kind_ends DataOut s on tasks v queue = data_ends s tasks v queue
 kind_ends QueryRequest s on tasks v queue = elim s.queries as (λ b. Ends tasks (Some (if b then query_reply on v else not_served v))) [
-  | true ↦ only_ends tasks _ tt
-  | false ↦ only_ends tasks _ tt
+  | true ↦ only_ends tasks _ tt tt
+  | false ↦ only_ends tasks _ tt tt
 ]
 kind_ends ManageRequest s on tasks v queue = elim s.manages as (λ b. Ends tasks (Some (if b then manage_reply s tasks v else not_served v))) [
-  | true ↦ only_ends tasks _ tt
-  | false ↦ only_ends tasks _ tt
+  | true ↦ only_ends tasks _ tt tt
+  | false ↦ only_ends tasks _ tt tt
 ]
-kind_ends _ s on tasks v queue = only_ends tasks _ tt
+kind_ends _ s on tasks v queue = only_ends tasks _ tt tt
 
 fault_ends : (tasks : List Task) (bytes : List ℕ) (reason : ℕ) → Ends tasks (Some (fault_rejection bytes reason))
-fault_ends tasks (a ∷ b ∷ lun ∷ tag ∷ rest) reason = only_ends tasks _ tt
-fault_ends tasks (a ∷ b ∷ lun ∷ []) reason = only_ends tasks _ tt
-fault_ends tasks (a ∷ b ∷ []) reason = only_ends tasks _ tt
-fault_ends tasks (a ∷ []) reason = only_ends tasks _ tt
-fault_ends tasks [] reason = only_ends tasks _ tt
+fault_ends tasks (a ∷ b ∷ lun ∷ tag ∷ rest) reason = only_ends tasks _ tt tt
+fault_ends tasks (a ∷ b ∷ lun ∷ []) reason = only_ends tasks _ tt tt
+fault_ends tasks (a ∷ b ∷ []) reason = only_ends tasks _ tt tt
+fault_ends tasks (a ∷ []) reason = only_ends tasks _ tt tt
+fault_ends tasks [] reason = only_ends tasks _ tt tt
 
 reply_ends : (s : Sizes) (on : Bool) (tasks : List Task) (bytes : List ℕ) → IsQueue s tasks → Ends tasks (reply_of s on tasks bytes)
 unfolding reply_of
@@ -246,24 +251,25 @@ unowed s u e bytes all comes = by_owed (owed s e) all comes
 
 -- a UPIU of the device came of a step, or it is a reply
 replied_first : (s : Sizes) (u : List Block) (e : History) (host bytes : List ℕ) → Comes s u (e ▹ Host host) (owed s (e ▹ Host host)) (Device bytes)
-    → MaySend s (tasks_after s (e ▹ Host host)) bytes ⊎ EndsBadly (tasks_after s (e ▹ Host host)) (leaving (tasks_after s (e ▹ Host host)) (Device bytes))
+    → MaySend s (tasks_after s (e ▹ Host host)) bytes ⊎ (EndsBadly (tasks_after s (e ▹ Host host)) (leaving (tasks_after s (e ▹ Host host)) (Device bytes)) × IsNoData (upiu_at bytes).kind)
 replied_first s u e host bytes comes = by_reply (reply_of s (on_after e) (tasks_after s e) host) refl comes
   where
     tasks : List Task
     tasks = tasks_after s e
     by_reply : (r : Option Upiu) → reply_of s (on_after e) (tasks_after s e) host ≡ r → Comes s u (e ▹ Host host) (reply_events (effects_of s (on_after e) (tasks_after s e) host) r) (Device bytes)
-        → MaySend s (tasks_after s (e ▹ Host host)) bytes ⊎ EndsBadly (after_reply s (tasks_after s e) (upiu_at host) (reply_of s (on_after e) (tasks_after s e) host)) (leaving (after_reply s (tasks_after s e) (upiu_at host) (reply_of s (on_after e) (tasks_after s e) host)) (Device bytes))
+        → MaySend s (tasks_after s (e ▹ Host host)) bytes ⊎ (EndsBadly (after_reply s (tasks_after s e) (upiu_at host) (reply_of s (on_after e) (tasks_after s e) host)) (leaving (after_reply s (tasks_after s e) (upiu_at host) (reply_of s (on_after e) (tasks_after s e) host)) (Device bytes)) × IsNoData (upiu_at bytes).kind)
     by_reply (Some v) is comes =
         let same : bytes ≡ upiu_out v = cc in
         let kept : after_reply s (tasks_after s e) (upiu_at host) (reply_of s (on_after e) (tasks_after s e) host) ≡ tasks_after s e = ap (after_reply s (tasks_after s e) (upiu_at host)) is in
+        let found = (reply_ends s (on_after e) (tasks_after s e) host (queue_after s e)).ends v is in
         inr (subst (λ (ts : List Task). EndsBadly ts (leaving ts (Device bytes))) (sym kept)
         (subst (λ (b : List ℕ). EndsBadly (tasks_after s e) (leaving (tasks_after s e) (Device b))) (sym same)
         (subst (EndsBadly (tasks_after s e)) (sym (out_leaves (tasks_after s e) v))
-        ((reply_ends s (on_after e) (tasks_after s e) host (queue_after s e)).ends v is))))
+        found.0)), subst (λ (b : List ℕ). IsNoData (upiu_at b).kind) (sym same) (subst IsNoData (sym (out_kind v)) found.1))
     by_reply None is comes = inl comes.0
 
 pub sent_or_replied : (s : Sizes) (u : List Block) (e : History) (bytes : List ℕ) → SoundSoFar s u (e ▹ Device bytes)
-    → MaySend s (tasks_after s e) bytes ⊎ EndsBadly (tasks_after s e) (leaving (tasks_after s e) (Device bytes))
+    → MaySend s (tasks_after s e) bytes ⊎ (EndsBadly (tasks_after s e) (leaving (tasks_after s e) (Device bytes)) × IsNoData (upiu_at bytes).kind)
 sent_or_replied s u [] bytes sound = inl sound.1.0
 sent_or_replied s u (Host host ∷ e) bytes sound = replied_first s u e host bytes sound.1
 sent_or_replied s u (x ∷ e) bytes sound = inl (unowed s u (x ∷ e) bytes (owed_requested s e) sound.1)
@@ -272,7 +278,7 @@ sent_or_replied s u (x ∷ e) bytes sound = inl (unowed s u (x ∷ e) bytes (owe
 pub first_ends : (s : Sizes) (u : List Block) (e : History) (bytes : List ℕ) → SoundSoFar s u (e ▹ Device bytes) → FirstAlone (tasks_after s e) (leaving (tasks_after s e) (Device bytes))
 first_ends s u e bytes sound = ⊎_elim
     (λ (may : MaySend s (tasks_after s e) bytes). sent_first s (tasks_after s e) bytes (queue_after s e) may)
-    (λ (badly : EndsBadly (tasks_after s e) (leaving (tasks_after s e) (Device bytes))). badly_alone (tasks_after s e) _ badly)
+    (λ (badly : EndsBadly (tasks_after s e) (leaving (tasks_after s e) (Device bytes)) × IsNoData (upiu_at bytes).kind). badly_alone (tasks_after s e) _ badly.0)
     (sent_or_replied s u e bytes sound)
 
 -- a task that is answered GOOD has moved all its bytes
@@ -305,7 +311,7 @@ pub good_moved : (s : Sizes) (u : List Block) (e : History) (bytes : List ℕ) (
     → leaving (tasks_after s e) (Device bytes) ≡ record { task = task; good = true } ∷ [] → MovedAll s task
 good_moved s u e bytes task sound leaves = ⊎_elim
     (λ (may : MaySend s (tasks_after s e) bytes). sent_good s (tasks_after s e) bytes task (queue_after s e) may leaves)
-    (λ (badly : EndsBadly (tasks_after s e) (leaving (tasks_after s e) (Device bytes))). absurd (never badly))
+    (λ (badly : EndsBadly (tasks_after s e) (leaving (tasks_after s e) (Device bytes)) × IsNoData (upiu_at bytes).kind). absurd (never badly.0))
     (sent_or_replied s u e bytes sound)
   where
     never : EndsBadly (tasks_after s e) (leaving (tasks_after s e) (Device bytes)) → ⊥

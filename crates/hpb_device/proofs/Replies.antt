@@ -14,7 +14,7 @@ use Rattle.upiu_wire.specs.declared.kind.Kind.TheVariants.{Command, DataOut}
 use Rattle.upiu_wire.specs.Upiu.{upiu_at}
 use Rattle.upiu_wire.specs.WireFault.{wire_fault_of}
 use Rattle.flat_unit.specs.Reply.{command_refusal, data_refusal, refusal_of_cdb, refusal_of_command, check_command, check, reply_of, reply_by_kind}
-use Rattle.flat_unit.proofs.Laws.{reply_to_kind}
+use Rattle.flat_unit.proofs.History.{reply_to_kind}
 use Rattle.hpb_device.proofs.Harmless.{command_harmless, rejection_harmless}
 use Rattle.flat_unit.specs.Senses.{bad_field, wrong_data, sense_of_fault}
 use Rattle.flat_unit.specs.Task.{Task as Waiting}

@@ -14,7 +14,7 @@ use Rattle.hpb_device.specs.Advance.{Advances, IsSameStore, MakesACallAtMost}
 use Rattle.hpb_device.specs.Limits.{limits_of}
 use Rattle.hpb_device.specs.Reply.{reply_upiu}
 use Rattle.hpb_device.specs.State.{DeviceState}
-use Rattle.hpb_device.specs.Task.{WaitsForData}
+use Rattle.hpb_device.specs.Task.{WaitsForData, IsTaskOk}
 
 -- a command was kept where none was
 pub record Keeps (old new : DeviceState) (bytes : List ℕ) : Type 0 where
@@ -61,6 +61,7 @@ pub record GoesOn (old new : DeviceState) (result : Stepped) (out : List ℕ) : 
   pub task : Task
   pub progress : Progress
   pub was : old.head ≡ Some task
+  pub ok : IsTaskOk old.store.luns old.shape.units task
   pub advances : Advances old.store new.store old.held new.held task progress out
   pub leaves : Leaves progress new.head result out
   pub same : IsSameStore old.store new.store

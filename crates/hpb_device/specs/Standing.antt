@@ -36,6 +36,10 @@ kept_of device tasks = record {
   next = next_seq device.store.pages;
 }
 
+-- the unit of a device's chip and its next sequence number, as a history begins over them
+abbrev pub first_of : DeviceState → First
+first_of device = record { unit = unit_of device.store.luns device.store.units device.store.pages; next = next_seq device.store.pages }
+
 -- the device keeps the tasks of the history, and stands at it
 pub record DeviceStands (device : DeviceState) (first : First) (e : History) : Type 0 where
   pub tasks : List Waiting

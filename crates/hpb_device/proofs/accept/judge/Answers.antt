@@ -9,7 +9,7 @@ use Rattle.hpb_device.specs.Reply.{reply_upiu}
 use Rattle.hpb_device.proofs.Harmless.{fault_harmless}
 use Rattle.upiu_wire.specs.Written.{blank_upiu, reject_upiu}
 use Rattle.flat_unit.specs.Reply.{fault_rejection}
-use Rattle.flat_unit.proofs.Laws.{reply_to_fault, reply_to_kind, other_kind}
+use Rattle.flat_unit.proofs.History.{reply_to_fault, reply_to_kind, other_kind}
 use Rattle.hpb_device.specs.Accept.{IsJudged, IsDataVerdict}
 use Rattle.hpb_device.specs.Sizes.{sizes}
 use Rattle.hpb_device.proofs.Replies.{follows_command, follows_refusal, follows_data}

@@ -4,3 +4,5 @@ pub mod Writing
 pub mod Refusing
 pub mod Requests
 pub mod Tracing
+pub mod Entries
+pub mod Hinting

@@ -243,7 +243,7 @@ stands_moved s first kept e lun lba at = record {
 }
 
 -- the host's bytes are kept, and these tasks with them
-host_kept : (s : Sizes) (first : First) (kept : Kept) (e : History) (bytes : List ℕ) (now : List Task)
+pub host_kept : (s : Sizes) (first : First) (kept : Kept) (e : History) (bytes : List ℕ) (now : List Task)
     → reply_of s kept.on kept.tasks bytes ≡ None → tasks_changed s kept.on kept.tasks (Host bytes) ≡ now
     → HasProgress s kept.programmed now
     → ((p : Place) → HoldsAt s kept (candidates s first.unit e p) p → HoldsAt s (with_tasks now kept) (candidates s first.unit e p) p)

@@ -12,7 +12,7 @@ use Rattle.hpb_cdb.specs.declared.cdb.Cdb.TheVariants.{Read, Write, Capacity, Hp
 use Rattle.hpb_cdb.specs.declared.fault.CdbFault.{CdbFault}
 use Rattle.hpb_cdb.specs.Cdb.{needed_by}
 use Rattle.upiu_wire.specs.declared.kind.Kind.{Kind}
-use Rattle.upiu_wire.specs.declared.kind.Kind.TheVariants.{NopOut, Command, DataOut, ManageRequest, QueryRequest, Response, DataIn}
+use Rattle.upiu_wire.specs.declared.kind.Kind.TheVariants.{NopOut, Command, DataOut, ManageRequest, QueryRequest, Response, DataIn, ReadyToTransfer}
 use Rattle.upiu_wire.specs.Upiu.{Upiu, upiu_at, upiu_out}
 use Rattle.upiu_wire.specs.WireFault.{wire_fault_of, number_of}
 use Rattle.upiu_wire.specs.declared.fault.WireFault.{WireFault}
@@ -114,12 +114,23 @@ abbrev pub IsNoData : Kind → Type 0
 IsNoData DataIn = ⊥
 IsNoData _ = Unit {0}
 
+-- a reply is no DATA IN and no READY TO TRANSFER, and it is never GOOD
+abbrev pub IsReply : Upiu → Kind → Type 0
+IsReply v DataIn = ⊥
+IsReply v ReadyToTransfer = ⊥
+IsReply v Response = (v.status == 0) ≡ false
+IsReply v _ = Unit {0}
+
+reply_is_no_data : (v : Upiu) (kind : Kind) → IsReply v kind → IsNoData kind
+reply_is_no_data v DataIn is = is
+reply_is_no_data v _ is = tt
+
 -- a reply ends the first task at most
 record Ends (tasks : List Task) (o : Option Upiu) : Type 0 where
-  ends : (r : Upiu) → o ≡ Some r → EndsBadly tasks (answered r r.kind tasks) × IsNoData r.kind
+  ends : (r : Upiu) → o ≡ Some r → EndsBadly tasks (answered r r.kind tasks) × IsReply r r.kind
 
-only_ends : (tasks : List Task) (v : Upiu) → EndsBadly tasks (answered v v.kind tasks) → IsNoData v.kind → Ends tasks (Some v)
-only_ends tasks v alone kind = record { ends = λ r is. let same : v ≡ r = cc in subst (λ (u : Upiu). EndsBadly tasks (answered u u.kind tasks) × IsNoData u.kind) same (alone, kind) }
+only_ends : (tasks : List Task) (v : Upiu) → EndsBadly tasks (answered v v.kind tasks) → IsReply v v.kind → Ends tasks (Some v)
+only_ends tasks v alone kind = record { ends = λ r is. let same : v ≡ r = cc in subst (λ (u : Upiu). EndsBadly tasks (answered u u.kind tasks) × IsReply u u.kind) same (alone, kind) }
 
 none_ends : (tasks : List Task) → Ends tasks None
 none_ends tasks = record { ends = λ r is. absurd (no_reply r is) }
@@ -134,22 +145,22 @@ either tasks false f g = g refl
 command_ends : (s : Sizes) (on : Bool) (tasks : List Task) (v : Upiu) → Ends tasks (command_refusal s on tasks v)
 command_ends s on tasks v =
     either tasks (list_any (has_tag v.tag) tasks) (λ _. only_ends tasks _ tt tt) (λ none.
-    either tasks (nat_le s.luns v.lun) (λ _. only_ends tasks _ (badly_none tasks v.tag none) tt) (λ _.
-    either tasks (nat_le s.room (length tasks)) (λ _. only_ends tasks _ (badly_none tasks v.tag none) tt) (λ _.
+    either tasks (nat_le s.luns v.lun) (λ _. only_ends tasks _ (badly_none tasks v.tag none) refl) (λ _.
+    either tasks (nat_le s.room (length tasks)) (λ _. only_ends tasks _ (badly_none tasks v.tag none) refl) (λ _.
     by_cdb (command_of s v.cdb) none)))
   where
     by_cdb : (r : Result Cdb CdbFault) → list_any (has_tag v.tag) tasks ≡ false → Ends tasks (refusal_of_cdb s on v r)
-    by_cdb (Err fault) none = only_ends tasks _ (badly_none tasks v.tag none) tt
+    by_cdb (Err fault) none = only_ends tasks _ (badly_none tasks v.tag none) refl
     by_cdb (Ok command) none =
-        either tasks (is_hpb command && not on) (λ _. only_ends tasks _ (badly_none tasks v.tag none) tt) (λ _.
-        either tasks (nat_lt v.first (needed s command)) (λ _. only_ends tasks _ (badly_none tasks v.tag none) tt) (λ _. none_ends tasks))
+        either tasks (is_hpb command && not on) (λ _. only_ends tasks _ (badly_none tasks v.tag none) refl) (λ _.
+        either tasks (nat_lt v.first (needed s command)) (λ _. only_ends tasks _ (badly_none tasks v.tag none) refl) (λ _. none_ends tasks))
 
 data_ends : (s : Sizes) (tasks : List Task) (v : Upiu) → IsQueue s tasks → Ends tasks (data_refusal tasks v)
 data_ends s [] v queue = only_ends [] _ tt tt
 data_ends s (task ∷ others) v queue =
     either (task ∷ others) (not (waits_for_data task && ((task.lun == v.lun) && (task.tag == v.tag)))) (λ _. only_ends (task ∷ others) _ tt tt) (λ mine.
     either (task ∷ others) (is_next_piece task v) (λ _. none_ends (task ∷ others)) (λ _.
-    only_ends (task ∷ others) _ (badly_first task others v.tag (sym (eqb-true task.tag v.tag (third _ _ _ mine))) queue.apart.0) tt))
+    only_ends (task ∷ others) _ (badly_first task others v.tag (sym (eqb-true task.tag v.tag (third _ _ _ mine))) queue.apart.0) refl))
   where
     third : (a b c : Bool) → not (a && (b && c)) ≡ false → c ≡ true
     third true true true is = refl
@@ -185,6 +196,10 @@ reply_ends s on tasks bytes queue = by_fault (wire_fault_of bytes)
     by_fault : (fault : Option WireFault) → Ends tasks (reply_by_fault s on tasks bytes fault)
     by_fault (Some fault) = fault_ends tasks bytes (number_of fault)
     by_fault None = kind_ends (upiu_at bytes).kind s on tasks (upiu_at bytes) queue
+
+-- what a reply is, and what it ends
+pub reply_is : (s : Sizes) (on : Bool) (tasks : List Task) (bytes : List ℕ) (v : Upiu) → IsQueue s tasks → reply_of s on tasks bytes ≡ Some v → EndsBadly tasks (answered v v.kind tasks) × IsReply v v.kind
+reply_is s on tasks bytes v queue is = (reply_ends s on tasks bytes queue).ends v is
 
 -- no event that follows a reply is a UPIU
 abbrev pub IsRequested : Event → Type 0
@@ -265,7 +280,7 @@ replied_first s u e host bytes comes = by_reply (reply_of s (on_after e) (tasks_
         inr (subst (λ (ts : List Task). EndsBadly ts (leaving ts (Device bytes))) (sym kept)
         (subst (λ (b : List ℕ). EndsBadly (tasks_after s e) (leaving (tasks_after s e) (Device b))) (sym same)
         (subst (EndsBadly (tasks_after s e)) (sym (out_leaves (tasks_after s e) v))
-        found.0)), subst (λ (b : List ℕ). IsNoData (upiu_at b).kind) (sym same) (subst IsNoData (sym (out_kind v)) found.1))
+        found.0)), subst (λ (b : List ℕ). IsNoData (upiu_at b).kind) (sym same) (subst IsNoData (sym (out_kind v)) (reply_is_no_data v v.kind found.1)))
     by_reply None is comes = inl comes.0
 
 pub sent_or_replied : (s : Sizes) (u : List Block) (e : History) (bytes : List ℕ) → SoundSoFar s u (e ▹ Device bytes)

@@ -4,6 +4,8 @@ use Rattle.std.specs.Prelude.{◌≡◌, ◌≤◌, ℕ, ◌+◌, Bool, false, L
 use Rattle.flash_pages.specs.Place.{Place, IsPlace}
 use Rattle.hpb_cdb.specs.declared.cdb.Cdb.{Cdb}
 use Rattle.hpb_cdb.specs.declared.cdb.Cdb.TheVariants.{Write}
+use Rattle.upiu_wire.specs.declared.kind.Kind.{Kind}
+use Rattle.upiu_wire.specs.declared.kind.Kind.TheVariants.{Response}
 use Rattle.flat_unit.specs.Causes.{Caused}
 use Rattle.flat_unit.specs.Contents.{Block, block_at, block_written, is_among, candidates}
 use Rattle.flat_unit.specs.History.{History}
@@ -98,3 +100,8 @@ gone_from tag kept = record kept {
   tasks = without_tag tag kept.tasks;
   programmed = if first_has tag kept.tasks then 0 else kept.programmed;
 }
+
+-- what a reply leaves: a RESPONSE ends the task with its tag
+abbrev pub ended_by : Kind → ℕ → Kept → Kept
+ended_by Response tag kept = gone_from tag kept
+ended_by _ tag kept = kept

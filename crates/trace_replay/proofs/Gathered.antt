@@ -9,8 +9,8 @@ pub gathered : (items out rest after line : List ℕ) (len count : ℕ) → len 
 gathered items out rest after line len count inside is counted =
     let front = take len items in
     let whole : (n : ℕ) → n ≡ length front → take (n + count) (front ++ (out ++ after)) ≡ front ++ take count (out ++ after) =
-        λ n same. subst (λ (m : ℕ). take (m + count) (front ++ (out ++ after)) ≡ front ++ take count (out ++ after)) (sym same) (take-append-add front (out ++ after) count) in
+    λ n same. subst (λ (m : ℕ). take (m + count) (front ++ (out ++ after)) ≡ front ++ take count (out ++ after)) (sym same) (take-append-add front (out ++ after) count) in
     let grouped : out ++ after ≡ line ++ (rest ++ after) = ap (λ (xs : List ℕ). xs ++ after) is ∙ append_assoc line rest after in
     let begins : take count (out ++ after) ≡ line =
-        ap (λ (xs : List ℕ). take count xs) grouped ∙ (ap (λ (n : ℕ). take n (line ++ (rest ++ after))) counted ∙ take-append_seam line (rest ++ after)) in
+    ap (λ (xs : List ℕ). take count xs) grouped ∙ (ap (λ (n : ℕ). take n (line ++ (rest ++ after))) counted ∙ take-append_seam line (rest ++ after)) in
     whole len (sym (length-take-le len items inside)) ∙ ap (λ (xs : List ℕ). front ++ xs) begins

@@ -1,6 +1,5 @@
 -- The words of the command line.
 use Rattle.std.specs.Prelude.{◌≡◌, ℕ, List, [], ◌∷◌, codes}
-use Rattle.flash_pages.specs.declared.chip.Geometry.{Geometry}
 
 -- the words are the one word `replay`
 abbrev pub IsReplay : List (List ℕ) → Type 0

@@ -11,3 +11,10 @@ mod words;
 pub use program::run;
 pub use status::{Outcome, Status};
 pub use words::chip_of;
+
+#[cfg(test)]
+mod layout_tests;
+#[cfg(test)]
+mod tests;
+#[cfg(test)]
+mod texts;

@@ -136,7 +136,10 @@ fn serve<K: Sink, F: Flash>(
     ensures read { ¬ (result ≡ Turn.Unread) }
 {
     let Buffers {
-        room, upiu, output, ..
+        room,
+        upiu,
+        output,
+        ..
     } = buffers;
     match line {
         Line::Blank => Turn::Served,

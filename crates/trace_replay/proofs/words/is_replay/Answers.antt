@@ -8,7 +8,7 @@ pub returns-in-len1 : goal.returns-in-len1
 returns-in-len1 c =
     let word = string_bytes c.word-item.result in
     let words : map string_bytes c.args.words.now ≡ word ∷ [] =
-        map-one string_bytes c.args.words.now c.word-item.result (omega (arith, c.in-len1.len_at_least)) (omega (arith, c.in-len1.len_below)) c.word-item.is in
+    map-one string_bytes c.args.words.now c.word-item.result (omega (arith, c.in-len1.len_at_least)) (omega (arith, c.in-len1.len_below)) c.word-item.is in
     let text = c.as_str.ensures.value in
     let test = bytes_eq-Decides c.as_str.result.now (codes "replay") in (
       λ yes. words ∙ ap (λ (w : List ℕ). w ∷ []) (sym text ∙ test.0 (sym c.eq.ensures ∙ yes)),

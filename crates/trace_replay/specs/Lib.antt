@@ -1,3 +1,5 @@
+pub mod Form
+pub mod Moments
 pub mod Status
 pub mod Words
 pub mod Writes

@@ -1,3 +1,9 @@
+ghost use Rattle.std.specs.Prelude.{◌≡◌};
+ghost use Rattle.hpb_cdb.specs.Read.{cdb_of};
+ghost use Rattle.upiu_wire.specs.Upiu.{upiu_at};
+ghost use Rattle.upiu_wire.specs.declared.kind.Kind.TheVariants.{Command, DataOut};
+ghost use Rattle.trace_replay.specs.Form.{any_limits, is_one_block, moves_one_block, names_one_block};
+
 use flash_pages::BLOCK_BYTES;
 use hpb_cdb::{Cdb, Limits};
 use upiu_wire::{Kind, UpiuView};
@@ -6,30 +12,40 @@ const BLOCK: u32 = BLOCK_BYTES as u32;
 
 /// Whether the bytes have a form that is served: a READ(10) or a WRITE(10) of one block of unit 0, or the DATA OUT of a
 /// whole block of it.
-pub(crate) fn is_served(bytes: &[u8]) -> bool {
+pub(crate) fn is_served(bytes: &[u8]) -> bool
+    ensures { result ≡ is_one_block bytes.now }
+{
     let Ok(view) = UpiuView::parse(bytes) else {
         return false;
     };
     match view.kind() {
-        Kind::Command => is_served_command(&view),
+        Kind::Command => is_block_command(&view),
         Kind::DataOut => is_whole_block(&view),
         _ => false,
     }
 }
 
 /// A command about one block, which is what the host expects to move.
-fn is_served_command(view: &UpiuView<'_>) -> bool {
-    let command = hpb_cdb::parse(view.cdb(), Limits::any());
-    match command {
-        Ok(Cdb::Read { n: 1, .. } | Cdb::Write { n: 1, .. }) => {
-            view.lun() == 0 && view.first() == BLOCK
-        }
+fn is_block_command(view: &UpiuView<'_>) -> bool
+    ensures { result ≡ moves_one_block (upiu_at view.now) Command }
+{
+    view.lun() == 0 && view.first() == BLOCK && names_one_block(view)
+}
+
+/// READ(10) or WRITE(10) of one block.
+fn names_one_block(view: &UpiuView<'_>) -> bool
+    ensures { result ≡ names_one_block (cdb_of any_limits (upiu_at view.now).cdb) }
+{
+    match hpb_cdb::parse(view.cdb(), Limits::any()) {
+        Ok(Cdb::Read { n, .. } | Cdb::Write { n, .. }) => n == 1,
         _ => false,
     }
 }
 
 /// The data of one block, from its begin to its end.
-fn is_whole_block(view: &UpiuView<'_>) -> bool {
+fn is_whole_block(view: &UpiuView<'_>) -> bool
+    ensures { result ≡ moves_one_block (upiu_at view.now) DataOut }
+{
     view.lun() == 0
         && view.first() == 0
         && view.count() == BLOCK

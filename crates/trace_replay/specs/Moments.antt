@@ -1,0 +1,54 @@
+-- Where a device and a text stand while a trace is replayed.
+use Rattle.std.specs.Prelude.{◌≡◌, ℕ, ◌≤◌, List, [], Option, IsTrue}
+use Rattle.flash_store.specs.Store.{StoreState}
+use Rattle.flat_unit.specs.Causes.{FailuresWithin}
+use Rattle.flat_unit.specs.Print.{print}
+use Rattle.flat_unit.specs.Replays.{Progress, StepsTo, LineTo, enough, tasks_at, without_runs}
+use Rattle.flat_unit.specs.Sizes.{Sizes}
+use Rattle.flat_unit.specs.Sound.{answers_to}
+use Rattle.flat_unit.specs.Queue.{on_after}
+use Rattle.flat_unit.specs.Trace.{Line, Upiu, Drain, Blank}
+use Rattle.hpb_device.specs.Standing.{DeviceStands, first_of, sizes_of}
+use Rattle.hpb_device.specs.State.{DeviceState}
+use Rattle.trace_replay.specs.Form.{is_one_block}
+use Rattle.trace_replay.specs.Writes.{AppendsFront, HasWrittenUpTo}
+
+-- a device that began without events now stands at those of this moment
+pub record Standing (start now : DeviceState) (p : Progress) : Type 0 where
+  pub some_page : 1 ≤ start.store.geometry.pages
+  pub stands : DeviceStands now (first_of start) p.events
+  pub sizes : sizes_of now ≡ sizes_of start
+  pub faults : FailuresWithin start.store.faults now.store.faults p.events
+
+-- a line that is served, where the replay has come so far: the UPIU has one of the forms, and nothing answers it at once
+abbrev pub IsServedLine : Sizes → Progress → Line → Type 0
+IsServedLine s p (Upiu bytes) = IsTrue (is_one_block bytes) × (answers_to s (on_after p.events) (tasks_at s p) bytes ≡ [])
+IsServedLine s p Drain = Unit {0}
+IsServedLine s p Blank = Unit {0}
+IsServedLine s p _ = ⊥
+
+-- what a line may lead to that is cut after one of its calls: a UPIU is cut before the device has it
+abbrev pub CutLineTo : Sizes → Line → Progress → Progress → Type 0
+CutLineTo s (Upiu bytes) p now = now ≡ p
+CutLineTo s Drain p now = (n : ℕ) × (n ≤ enough s (tasks_at s p)) × StepsTo s n (without_runs p) now
+CutLineTo s _ p now = ⊥
+
+-- a call led to a moment of this kind, whose text is written but for what is gathered
+pub record Leads (next : Progress → Type 0) (start now : DeviceState) (before written : Option (List ℕ)) (gathered : List ℕ) : Type 0 where
+  pub moment : Progress
+  pub reached : next moment
+  pub standing : Standing start now moment
+  pub printed : HasWrittenUpTo before written (print moment.events) gathered
+
+-- a call was cut at a moment of this kind, and a front of the text was written
+pub record Cuts (next : Progress → Type 0) (start now : DeviceState) (before written : Option (List ℕ)) : Type 0 where
+  pub moment : Progress
+  pub reached : next moment
+  pub standing : Standing start now moment
+  pub printed : AppendsFront before written (print moment.events)
+
+-- what a line is that isn't served: nothing is printed for it, and the chip is as it was
+pub record Refuses (line : Line) (start old new : DeviceState) (p : Progress) (before written : Option (List ℕ)) (gathered : List ℕ) : Type 0 where
+  pub refused : ¬ IsServedLine (sizes_of start) p line
+  pub store : new.store ≡ old.store
+  pub printed : HasWrittenUpTo before written (print p.events) gathered

@@ -135,3 +135,11 @@ begins_standing device none = record {
   stands = subst (λ (h : Option Task). Stands (sizes_of device) (first_of device) (record (kept_of device []) { programmed = programmed_of h }) []) (sym none)
       (stands_begun (sizes_of device) (unit_of device.store.luns device.store.units device.store.pages) (next_seq device.store.pages));
 }
+
+-- a device that doesn't go on is at rest
+rest_by : (head : Option Task) → ((MatchOption head ⊤ WaitsForData → ⊥) → ⊥) → MatchOption head ⊤ WaitsForData
+rest_by None other = tt
+rest_by (Some task) other = let not_over : (task.come < task.asked → ⊥) → ⊥ = other in grind (arith, not_over)
+
+pub at_rest_of : (device : DeviceState) → ((AtRest device → ⊥) → ⊥) → AtRest device
+at_rest_of device other = rest_by device.head other

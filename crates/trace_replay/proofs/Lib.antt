@@ -1,3 +1,4 @@
 pub mod Gathered
 pub mod OneItem
+pub mod Standing
 pub mod Written

@@ -1,8 +1,11 @@
 -- Texts that are written one after another.
-use Rattle.std.proofs.Common.{◌≡◌, ℕ, List, [], ◌++◌, take, drop, Option, Some, None, refl, sym, ◌∙◌, ap, subst, take-append-drop}
+use Rattle.std.proofs.Common.{◌≡◌, ℕ, List, [], ◌++◌, take, drop, Option, Some, None, Result, Ok, Err, refl, sym, ◌∙◌, ap, subst, take-append-drop}
 use Rattle.std.proofs.lemmas.List.{append_assoc, append-nil}
+use Rattle.std.specs.Prelude.{MatchResult, IsErr}
 use Rattle.std.specs.Io.KnownBytes.{Appends, Keeps}
-use Rattle.trace_replay.specs.Writes.{AppendsFront, HasWrittenUpTo}
+use Rattle.std.proofs.lemmas.Result.{MatchResult-weaker}
+use Rattle.std.proofs.lemmas.Bool.{false≢true}
+use Rattle.trace_replay.specs.Writes.{AppendsFront, HasWrittenUpTo, KeepsText, Writes}
 
 pub appends_nothing : (known : Option (List ℕ)) → Appends known known []
 appends_nothing None = tt
@@ -36,3 +39,36 @@ up_to_end a b text rest none so_far =
 
 pub front_kept : (a b c : Option (List ℕ)) (text rest : List ℕ) → HasWrittenUpTo a b text rest → Keeps b c → AppendsFront a c text
 front_kept a b c text rest so_far same = record { front = so_far.front; rest = rest; parts = so_far.parts; appended = appends_kept a b c so_far.front so_far.appended same }
+
+-- what was gathered was written, or a front of it
+pub flushed : {T E : Type 0} (old new : Option (List ℕ)) (gathered : List ℕ) (r : Result T E) → Writes old new r gathered → KeepsText old new gathered [] r
+flushed old new gathered r writes before text so_far =
+    MatchResult-weaker r writes
+    (λ _ all. record {
+      front = so_far.front ++ gathered;
+      parts = append-nil (so_far.front ++ gathered) ∙ so_far.parts;
+      appended = appends_more before old new so_far.front gathered so_far.appended all;
+    })
+    (λ _ cut. record {
+      front = so_far.front ++ cut.front;
+      rest = cut.rest;
+      parts = append_assoc so_far.front cut.front cut.rest ∙ (ap (λ (l : List ℕ). so_far.front ++ l) cut.parts ∙ so_far.parts);
+      appended = appends_more before old new so_far.front cut.front so_far.appended cut.appended;
+    })
+
+-- more is gathered
+pub gathers_more : (before written : Option (List ℕ)) (text gathered more : List ℕ) → HasWrittenUpTo before written text gathered → HasWrittenUpTo before written (text ++ more) (gathered ++ more)
+gathers_more before written text gathered more so_far = record {
+  front = so_far.front;
+  parts = sym (append_assoc so_far.front gathered more) ∙ ap (λ (l : List ℕ). l ++ more) so_far.parts;
+  appended = so_far.appended;
+}
+
+-- what is said of a call that failed, or didn't
+pub cut_of : {T E : Type 0} (r : Result T E) (P Q : Type 0) → IsErr r → MatchResult r (λ _. P) (λ _. Q) → Q
+cut_of (Ok x) P Q failed told = absurd (false≢true failed)
+cut_of (Err x) P Q failed told = told
+
+pub whole_of : {T E : Type 0} (r : Result T E) (P Q : Type 0) → ¬ IsErr r → MatchResult r (λ _. P) (λ _. Q) → P
+whole_of (Ok x) P Q worked told = told
+whole_of (Err x) P Q worked told = absurd (worked refl)

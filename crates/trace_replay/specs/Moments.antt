@@ -1,5 +1,5 @@
 -- Where a device and a text stand while a trace is replayed.
-use Rattle.std.specs.Prelude.{◌≡◌, ℕ, ◌≤◌, List, [], Option, IsTrue}
+use Rattle.std.specs.Prelude.{◌≡◌, ℕ, ◌≤◌, List, [], Option, Result, MatchResult, IsTrue}
 use Rattle.flash_store.specs.Store.{StoreState}
 use Rattle.flat_unit.specs.Causes.{FailuresWithin}
 use Rattle.flat_unit.specs.Print.{print}
@@ -10,6 +10,8 @@ use Rattle.flat_unit.specs.Queue.{on_after}
 use Rattle.flat_unit.specs.Trace.{Line, Upiu, Drain, Blank}
 use Rattle.hpb_device.specs.Standing.{DeviceStands, first_of, sizes_of}
 use Rattle.hpb_device.specs.State.{DeviceState}
+use Rattle.trace_replay.specs.declared.replay.Turn.{Turn}
+use Rattle.trace_replay.specs.declared.replay.Turn.TheVariants.{Served, Bad, Unwritten}
 use Rattle.trace_replay.specs.Form.{is_one_block}
 use Rattle.trace_replay.specs.Writes.{AppendsFront, HasWrittenUpTo}
 
@@ -52,3 +54,23 @@ pub record Refuses (line : Line) (start old new : DeviceState) (p : Progress) (b
   pub refused : ¬ IsServedLine (sizes_of start) p line
   pub store : new.store ≡ old.store
   pub printed : HasWrittenUpTo before written (print p.events) gathered
+
+-- a call serves a line, from wherever it begins
+abbrev pub Serves : {T E : Type 0} → Line → (old new : DeviceState) (written written_now : Option (List ℕ)) (gathered gathered_now : List ℕ) → Result T E → Type 0
+Serves line old new written written_now gathered gathered_now result =
+    (start : DeviceState) (before : Option (List ℕ)) (p : Progress) → Standing start old p → HasWrittenUpTo before written (print p.events) gathered
+    → MatchResult result (λ _. Leads (LineTo (sizes_of start) line p) start new before written_now gathered_now)
+    (λ _. Cuts (CutLineTo (sizes_of start) line p) start new before written_now)
+
+-- what a line comes to, from wherever it begins
+abbrev pub LineIs : Line → (start old new : DeviceState) (p : Progress) (before written : Option (List ℕ)) (gathered : List ℕ) → Turn → Type 0
+LineIs line start old new p before written gathered Served =
+    IsServedLine (sizes_of start) p line × Leads (LineTo (sizes_of start) line p) start new before written gathered
+LineIs line start old new p before written gathered Bad = Refuses line start old new p before written gathered
+LineIs line start old new p before written gathered Unwritten = Cuts (CutLineTo (sizes_of start) line p) start new before written
+LineIs line start old new p before written gathered _ = ⊥
+
+abbrev pub TurnServes : Line → (old new : DeviceState) (written written_now : Option (List ℕ)) (gathered gathered_now : List ℕ) → Turn → Type 0
+TurnServes line old new written written_now gathered gathered_now turn =
+    (start : DeviceState) (before : Option (List ℕ)) (p : Progress) → Standing start old p → HasWrittenUpTo before written (print p.events) gathered
+    → LineIs line start old new p before written_now gathered_now turn

@@ -1,5 +1,11 @@
-ghost use Rattle.std.specs.Prelude.{◌≡◌, ◌≤◌, ◌+◌, length, OnOk};
-ghost use Rattle.trace_text.specs.Grammar.{room_taken};
+ghost use Rattle.std.specs.Prelude.{◌≡◌, ◌≤◌, ◌+◌, ◌++◌, length, flat_map, None, OnOk};
+ghost use Rattle.flat_unit.specs.Print.{line_of};
+ghost use Rattle.flat_unit.specs.Replays.{events_of};
+ghost use Rattle.flat_unit.specs.Trace.{Upiu, Drain};
+ghost use Rattle.hpb_device.specs.Standing.{group_of};
+ghost use Rattle.trace_text.specs.Grammar.{line_said, room_taken};
+ghost use Rattle.trace_replay.specs.Moments.{Serves, TurnServes};
+ghost use Rattle.trace_replay.specs.Writes.{KeepsText};
 ghost use Rattle.hpb_outside.specs.Faults.{HasCause, Rose};
 ghost use Rattle.trace_replay.specs.declared.output.TheConstants.{OUTPUT_BYTES, LINE_ROOM};
 
@@ -58,6 +64,7 @@ pub(crate) enum Turn {
 /// Writes what was gathered, where there is no room for the lines of one more call.
 pub(crate) fn make_room<K: Sink>(output: &mut Output, sink: &mut K) -> Result<(), Failed>
     ensures room { OnOk result (length output.new + LINE_ROOM ≤ OUTPUT_BYTES) }
+    ensures text { KeepsText (K.written sink.old) (K.written sink.new) output.old output.new result }
     ensures cause { HasCause (K.faults sink.old) (K.faults sink.new) result }
 {
     if output.has_room() {
@@ -68,7 +75,9 @@ pub(crate) fn make_room<K: Sink>(output: &mut Output, sink: &mut K) -> Result<()
 
 /// Adds the lines of a step.
 fn push_step(stepped: Stepped, upiu: &UpiuBuf, output: &mut Output)
-    requires { length output.old + LINE_ROOM ≤ OUTPUT_BYTES }
+    requires room { length output.old + LINE_ROOM ≤ OUTPUT_BYTES }
+    requires still { stepped.moved ≡ None }
+    ensures { output.new ≡ output.old ++ flat_map line_of (events_of (group_of stepped upiu.now)) }
 {
     if let Some(op) = stepped.failed {
         output.push_event(&Event::Failed(op));
@@ -85,6 +94,7 @@ fn drain<K: Sink, F: Flash>(
     output: &mut Output,
     sink: &mut K,
 ) -> Result<(), Failed>
+    ensures serves { Serves Drain device.old device.new (K.written sink.old) (K.written sink.new) output.old output.new result }
     ensures cause { HasCause (K.faults sink.old) (K.faults sink.new) result }
 {
     'steps: while let Waits::Step = device.waits() {
@@ -104,6 +114,7 @@ fn receive_line<K: Sink, F: Flash>(
     sink: &mut K,
 ) -> Turn
     requires { length bytes.now ≤ 65568 }
+    ensures turn { TurnServes (Upiu bytes.now) device.old device.new (K.written sink.old) (K.written sink.new) output.old output.new result }
     ensures later { K.faults sink.old ≤ K.faults sink.new }
     ensures unwritten { result ≡ Turn.Unwritten → Rose (K.faults sink.old) (K.faults sink.new) }
     ensures read { ¬ (result ≡ Turn.Unread) }
@@ -131,6 +142,7 @@ fn serve<K: Sink, F: Flash>(
     sink: &mut K,
 ) -> Turn
     requires { room_taken line ≤ 65568 }
+    ensures turn { TurnServes (line_said buffers.old.room.items line) device.old device.new (K.written sink.old) (K.written sink.new) buffers.old.output buffers.new.output result }
     ensures later { K.faults sink.old ≤ K.faults sink.new }
     ensures unwritten { result ≡ Turn.Unwritten → Rose (K.faults sink.old) (K.faults sink.new) }
     ensures read { ¬ (result ≡ Turn.Unread) }

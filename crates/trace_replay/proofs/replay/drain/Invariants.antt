@@ -1,9 +1,18 @@
-use Rattle.std.proofs.Common.{◌≤◌}
-use Rattle.hpb_device.specs.State.{steps_left}
+use Rattle.std.proofs.Common.{◌≤◌, List, ℕ, Option}
+use Rattle.flat_unit.specs.Print.{print}
+use Rattle.flat_unit.specs.Replays.{Progress}
+use Rattle.hpb_device.specs.State.{DeviceState, steps_left}
+use Rattle.trace_replay.specs.Moments.{Standing}
+use Rattle.trace_replay.specs.Writes.{HasWrittenUpTo}
+use Rattle.trace_replay.proofs.Standing.{Draining}
 use Rattle.trace_replay.proofs.replay.drain.Given as goal
 
 abbrev pub invariant-steps : goal.invariant-steps
-invariant-steps g l = g.K.Sink.faults l.fn.sink ≤ g.K.Sink.faults l.sink
+invariant-steps g l = record {
+  drains : (start : DeviceState) (before : Option (List ℕ)) (p : Progress) → Standing start l.fn.device p → HasWrittenUpTo before (g.K.Sink.written l.fn.sink) (print p.events) l.fn.output
+      → Draining start l.device before (g.K.Sink.written l.sink) l.output p;
+  later : g.K.Sink.faults l.fn.sink ≤ g.K.Sink.faults l.sink;
+}
 
 abbrev pub decreases-steps : goal.decreases-steps
 decreases-steps g l = steps_left l.device

@@ -1,0 +1,246 @@
+-- Each call of the device leads from where it stands to where it stands then.
+use Rattle.std.proofs.Common.{◌≡◌, ℕ, suc, ◌+◌, ◌-◌, ◌<◌, ◌≤◌, Bool, true, false, List, [], ◌∷◌, ◌++◌, Option, Some, None, refl, sym, ◌∙◌, ap, subst, arith, inl, inr}
+use Rattle.std.specs.Prelude.{flat_map, IsTrue}
+use Rattle.std.specs.Bool.{OnFalse}
+use Rattle.flat_unit.specs.declared.event.Event.{Event}
+use Rattle.flat_unit.specs.declared.event.Event.TheVariants.{Host}
+use Rattle.flat_unit.specs.Causes.{failures, FailuresWithin}
+use Rattle.flat_unit.specs.History.{History, ◌▹◌, followed_by}
+use Rattle.flat_unit.specs.Print.{print, line_of}
+use Rattle.flat_unit.specs.Queue.{at_rest, on_after, tasks_after}
+use Rattle.flat_unit.specs.Replays.{Progress, Group, StepTo, StepsTo, LineTo, Drains, events_of, stepped, enough, has_asked, is_due, tasks_at, told, received, with_run, without_runs}
+use Rattle.flat_unit.specs.Sizes.{Sizes}
+use Rattle.flat_unit.specs.Sound.{answers_to}
+use Rattle.flat_unit.specs.Stands.{First}
+use Rattle.flat_unit.specs.Task.{Task}
+use Rattle.flat_unit.specs.Trace.{Upiu, Drain, Blank}
+use Rattle.flat_unit.proofs.History.{print-▹, print-followed_by, failures-followed_by, due_at_once}
+use Rattle.hpb_device.specs.declared.device.Sent.{Sent}
+use Rattle.hpb_device.specs.declared.device.Sent.TheVariants.{Nothing, Upiu as UpiuSent}
+use Rattle.hpb_device.specs.declared.device.Stepped.{Stepped}
+use Rattle.hpb_device.specs.Calls.{GoesOn}
+use Rattle.hpb_device.specs.Keeps.{KeepsTasks}
+use Rattle.hpb_device.specs.Standing.{DeviceStands, answer_events, first_of, group_of, sizes_of}
+use Rattle.hpb_device.specs.State.{DeviceState, AtRest, steps_left}
+use Rattle.hpb_device.proofs.Going.{going_fails, going_is_silent, going_moves_none, going_sizes, going_tasks, resting_tasks, few_left}
+use Rattle.trace_replay.specs.Form.{is_one_block}
+use Rattle.trace_replay.specs.Moments.{Standing, Leads, Cuts, CutLineTo, IsServedLine, Refuses}
+use Rattle.trace_replay.specs.Writes.{AppendsFront, HasWrittenUpTo}
+use Rattle.trace_replay.proofs.Written.{gathers_more}
+
+-- the lines of more events are gathered
+pub events_gathered : (before written : Option (List ℕ)) (e : History) (xs : List Event) (gathered : List ℕ) → HasWrittenUpTo before written (print e) gathered
+    → HasWrittenUpTo before written (print (followed_by e xs)) (gathered ++ flat_map line_of xs)
+events_gathered before written e xs gathered so_far =
+    subst (λ (text : List ℕ). HasWrittenUpTo before written text (gathered ++ flat_map line_of xs)) (sym (print-followed_by e xs))
+    (gathers_more before written (print e) gathered (flat_map line_of xs) so_far)
+
+host_gathered : (before written : Option (List ℕ)) (e : History) (bytes gathered : List ℕ) → HasWrittenUpTo before written (print e) gathered
+    → HasWrittenUpTo before written (print (e ▹ Host bytes)) (gathered ++ line_of (Host bytes))
+host_gathered before written e bytes gathered so_far =
+    subst (λ (text : List ℕ). HasWrittenUpTo before written text (gathered ++ line_of (Host bytes))) (sym (print-▹ e (Host bytes)))
+    (gathers_more before written (print e) gathered (line_of (Host bytes)) so_far)
+
+-- the tasks of the device are those of the events
+pub tracks : (start now : DeviceState) (p : Progress) (at : Standing start now p) → tasks_at (sizes_of start) p ≡ at.stands.tasks
+tracks start now p at = subst (λ (s : Sizes). tasks_after s p.events ≡ at.stands.tasks) at.sizes at.stands.stands.keeps
+
+-- a step of a device that goes on
+pub record Stepping (old new : DeviceState) (r : Stepped) (out : List ℕ) : Type 0 where
+  pub stands : (first : First) (e : History) → DeviceStands old first e → DeviceStands new first (followed_by e (events_of (group_of r out)))
+  pub goes : GoesOn old new r out
+  pub going : AtRest old → ⊥
+  pub fewer : steps_left new < steps_left old
+  pub shape : new.shape ≡ old.shape
+
+abbrev after_step : DeviceState → Progress → Stepped → List ℕ → Progress
+after_step start m r out = stepped (sizes_of start) m (group_of r out)
+
+due_leads : (s : Sizes) (m : Progress) (g : Group) → is_due s m ≡ true → g.moved ≡ None → (g.sent ≡ None → has_asked (tasks_at s m) ≡ true) → StepTo s m (stepped s m g)
+due_leads s m g due still silent = record {
+  group = g;
+  is_group = inr still;
+  timely = rw due (λ none. rw (silent none) refl);
+  leads = refl;
+}
+
+not_sent : (r : Stepped) (out : List ℕ) (b : Bool) → r.sent ≡ b → (group_of r out).sent ≡ None → b ≡ false
+not_sent r out true is none = absurd (no_bytes (sent ∙ none))
+  where
+    sent : Some out ≡ (group_of r out).sent
+    sent = rw is refl
+
+    no_bytes : {bytes : List ℕ} → Some bytes ≡ None → ⊥
+    no_bytes is = cc
+not_sent r out false is none = refl
+
+step_leads : (start old new : DeviceState) (m : Progress) (r : Stepped) (out : List ℕ) → Standing start old m → Stepping old new r out → StepTo (sizes_of start) m (after_step start m r out)
+step_leads start old new m r out at step =
+    let tracked = tracks start old m at in
+    let going : at_rest (tasks_at (sizes_of start) m) ≡ false = ap at_rest tracked ∙ going_tasks old at.stands.tasks at.stands.keeps step.going in
+    due_leads (sizes_of start) m (group_of r out) (due_at_once (sizes_of start) m refl going)
+    (rw (going_moves_none old new r out step.goes) refl)
+    (λ none. ap has_asked tracked ∙ going_is_silent old new r out at.stands.tasks step.goes at.stands.keeps (not_sent r out r.sent refl none))
+
+step_standing : (start old new : DeviceState) (m : Progress) (r : Stepped) (out : List ℕ) → Standing start old m → Stepping old new r out → Standing start new (after_step start m r out)
+step_standing start old new m r out at step = record {
+  some_page = at.some_page;
+  stands = step.stands (first_of start) m.events at.stands;
+  sizes = going_sizes old new r out step.goes step.shape ∙ at.sizes;
+  faults = omega (arith, at.faults, going_fails old new r out step.goes, failures-followed_by m.events (events_of (group_of r out)));
+}
+
+-- the steps that are left are at most those that the tasks need
+few_steps : (start now : DeviceState) (p : Progress) → Standing start now p → steps_left now ≤ enough (sizes_of start) (tasks_at (sizes_of start) p)
+few_steps start now p at =
+    let some : 1 ≤ now.store.geometry.pages = rw (ap (λ (s : Sizes). s.erase_block) at.sizes) at.some_page in
+    let few = few_left now at.stands.tasks some at.stands.keeps in
+    rw (tracks start now p at) (subst (λ (s : Sizes). steps_left now ≤ enough s at.stands.tasks) at.sizes few)
+
+-- so many steps of a drain were made
+pub record Draining (start now : DeviceState) (before written : Option (List ℕ)) (gathered : List ℕ) (p : Progress) : Type 0 where
+  pub count : ℕ
+  pub moment : Progress
+  pub steps : StepsTo (sizes_of start) count (without_runs p) moment
+  pub few : count + steps_left now ≤ enough (sizes_of start) (tasks_at (sizes_of start) p)
+  pub standing : Standing start now moment
+  pub printed : HasWrittenUpTo before written (print moment.events) gathered
+
+pub draining_begins : (start now : DeviceState) (before w : Option (List ℕ)) (gathered : List ℕ) (p : Progress) → Standing start now p → HasWrittenUpTo before w (print p.events) gathered → Draining start now before w gathered p
+draining_begins start now before w gathered p at printed = record {
+  count = 0;
+  moment = without_runs p;
+  steps = refl;
+  few = omega (arith, few_steps start now p at);
+  standing = record { some_page = at.some_page; stands = at.stands; sizes = at.sizes; faults = at.faults };
+  printed = printed;
+}
+
+-- what was gathered is written, or stays
+pub draining_written : (start now : DeviceState) (before w written : Option (List ℕ)) (gathered gathered_now : List ℕ) (p : Progress) → (so_far : Draining start now before w gathered p) → HasWrittenUpTo before written (print so_far.moment.events) gathered_now
+    → Draining start now before written gathered_now p
+draining_written start now before w written gathered gathered_now p so_far printed = record {
+  count = so_far.count;
+  moment = so_far.moment;
+  steps = so_far.steps;
+  few = so_far.few;
+  standing = so_far.standing;
+  printed = printed;
+}
+
+-- one more step, whose lines are gathered
+pub draining_goes_on : (start old new : DeviceState) (before w : Option (List ℕ)) (gathered gathered_now : List ℕ) (p : Progress) (r : Stepped) (out : List ℕ)
+    → Stepping old new r out → gathered_now ≡ gathered ++ flat_map line_of (events_of (group_of r out)) → Draining start old before w gathered p → Draining start new before w gathered_now p
+draining_goes_on start old new before w gathered gathered_now p r out step is so_far = record {
+  count = suc so_far.count;
+  moment = after_step start so_far.moment r out;
+  steps = (so_far.moment, so_far.steps, step_leads start old new so_far.moment r out so_far.standing step);
+  few = omega (arith, so_far.few, step.fewer);
+  standing = step_standing start old new so_far.moment r out so_far.standing step;
+  printed = rw is (events_gathered before w so_far.moment.events (events_of (group_of r out)) gathered so_far.printed);
+}
+
+-- the sink failed between two steps
+pub draining_is_cut : (start now : DeviceState) (before w written : Option (List ℕ)) (gathered : List ℕ) (p : Progress) → (so_far : Draining start now before w gathered p) → AppendsFront before written (print so_far.moment.events)
+    → Cuts (CutLineTo (sizes_of start) Drain p) start now before written
+draining_is_cut start now before w written gathered p so_far cut = record {
+  moment = so_far.moment;
+  reached = (so_far.count, omega (arith, so_far.few), so_far.steps);
+  standing = so_far.standing;
+  printed = cut;
+}
+
+pub draining_ends : (start now : DeviceState) (before w : Option (List ℕ)) (gathered : List ℕ) (p : Progress) → AtRest now → Draining start now before w gathered p
+    → Leads (LineTo (sizes_of start) Drain p) start now before w gathered
+draining_ends start now before w gathered p rests so_far = record {
+  moment = so_far.moment;
+  reached = record {
+    count = so_far.count;
+    few = omega (arith, so_far.few);
+    steps = so_far.steps;
+    rests = ap at_rest (tracks start now so_far.moment so_far.standing) ∙ resting_tasks now so_far.standing.stands.tasks so_far.standing.stands.keeps rests;
+  };
+  standing = so_far.standing;
+  printed = so_far.printed;
+}
+
+-- a blank line begins a run
+pub blank_leads : (start now : DeviceState) (before w : Option (List ℕ)) (gathered : List ℕ) (p : Progress) → Standing start now p → HasWrittenUpTo before w (print p.events) gathered
+    → Leads (LineTo (sizes_of start) Blank p) start now before w gathered
+blank_leads start now before w gathered p at printed = record {
+  moment = with_run (sizes_of start) p;
+  reached = refl;
+  standing = record { some_page = at.some_page; stands = at.stands; sizes = at.sizes; faults = at.faults };
+  printed = printed;
+}
+
+-- what `receive` says of a device
+pub record Received (old new : DeviceState) (bytes out : List ℕ) (sent : Sent) : Type 0 where
+  pub stands : (first : First) (e : History) → DeviceStands old first e → DeviceStands new first (followed_by (e ▹ Host bytes) (answer_events sent out))
+  pub answers : (tasks : List Task) → KeepsTasks old.head old.held tasks → answers_to (sizes_of old) true tasks bytes ≡ answer_events sent out
+  pub store : new.store ≡ old.store
+  pub shape : new.shape ≡ old.shape
+
+same_sizes : (old new : DeviceState) → new.store ≡ old.store → new.shape ≡ old.shape → sizes_of new ≡ sizes_of old
+same_sizes old new store shape = λ i. Rattle.hpb_device.specs.Sizes.sizes (store i).luns (Rattle.hpb_device.specs.Limits.limits_of (shape i)) (store i).geometry
+
+-- what the history says answers the bytes is what the device sends
+pub answers_of : (start old new : DeviceState) (bytes out : List ℕ) (sent : Sent) (p : Progress) → Standing start old p → Received old new bytes out sent
+    → answers_to (sizes_of start) (on_after p.events) (tasks_at (sizes_of start) p) bytes ≡ answer_events sent out
+answers_of start old new bytes out sent p at received =
+    ap (λ (on : Bool). answers_to (sizes_of start) on (tasks_at (sizes_of start) p) bytes) at.stands.stands.switch
+    ∙ (ap (λ (ts : List Task). answers_to (sizes_of start) true ts bytes) (tracks start old p at)
+    ∙ subst (λ (s : Sizes). answers_to s true at.stands.tasks bytes ≡ answer_events sent out) at.sizes (received.answers at.stands.tasks at.stands.keeps))
+
+-- bytes that nothing answers at once
+pub kept_leads : (start old new : DeviceState) (before w : Option (List ℕ)) (gathered gathered_now bytes out : List ℕ) (p : Progress) → Standing start old p
+    → Received old new bytes out Nothing → HasWrittenUpTo before w (print p.events) gathered → gathered_now ≡ gathered ++ line_of (Host bytes) → Leads (LineTo (sizes_of start) (Upiu bytes) p) start new before w gathered_now
+kept_leads start old new before w gathered gathered_now bytes out p at got printed is =
+    let answers = answers_of start old new bytes out Nothing p at got in
+    let events : told (sizes_of start) p bytes ≡ p.events ▹ Host bytes = ap (λ (xs : List Event). followed_by (p.events ▹ Host bytes) xs) answers in
+    record {
+      moment = received (sizes_of start) p bytes;
+      reached = refl;
+      standing = record {
+        some_page = at.some_page;
+        stands = rw events (got.stands (first_of start) p.events at.stands);
+        sizes = same_sizes old new got.store got.shape ∙ at.sizes;
+        faults = rw (events, got.store) at.faults;
+      };
+      printed = rw (events, is) (host_gathered before w p.events bytes gathered printed);
+    }
+
+-- bytes of another form
+pub other_form : (start now : DeviceState) (before w : Option (List ℕ)) (gathered bytes : List ℕ) (p : Progress) → (IsTrue (is_one_block bytes) → ⊥) → HasWrittenUpTo before w (print p.events) gathered
+    → Refuses (Upiu bytes) start now now p before w gathered
+other_form start now before w gathered bytes p other printed = record { refused = λ served. other served.0; store = refl; printed = printed }
+
+-- bytes that are answered at once
+pub answered_refuses : (start old new : DeviceState) (before w : Option (List ℕ)) (gathered bytes out : List ℕ) (p : Progress) → Standing start old p
+    → Received old new bytes out UpiuSent → HasWrittenUpTo before w (print p.events) gathered → Refuses (Upiu bytes) start old new p before w gathered
+answered_refuses start old new before w gathered bytes out p at got printed = record {
+  refused = λ served. no_reply (sym (answers_of start old new bytes out UpiuSent p at got) ∙ served.1);
+  store = got.store;
+  printed = printed;
+}
+  where
+    no_reply : {x : Event} {xs : List Event} → x ∷ xs ≡ [] → ⊥
+    no_reply is = cc
+
+-- a step of a device that wasn't at rest
+on_false : {P : Type 0} (b : Bool) → (IsTrue b → ⊥) → OnFalse b P → P
+on_false true other told = absurd (other refl)
+on_false false other told = told
+
+pub stepping_of : (old new : DeviceState) (r : Stepped) (out : List ℕ) → ((first : First) (e : History) → DeviceStands old first e → DeviceStands new first (followed_by e (events_of (group_of r out))))
+    → (AtRest old → ⊥) → (IsTrue r.idle → AtRest old) → OnFalse r.idle (GoesOn old new r out) → OnFalse r.idle (steps_left new < steps_left old) → new.shape ≡ old.shape → Stepping old new r out
+stepping_of old new r out stands going idle steps fewer shape = record {
+  stands = stands;
+  goes = on_false r.idle (λ is. going (idle is)) steps;
+  going = going;
+  fewer = on_false r.idle (λ is. going (idle is)) fewer;
+  shape = shape;
+}
+
+pub stepping_moves_none : (old new : DeviceState) (r : Stepped) (out : List ℕ) → Stepping old new r out → r.moved ≡ None
+stepping_moves_none old new r out step = going_moves_none old new r out step.goes

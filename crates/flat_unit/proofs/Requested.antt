@@ -88,8 +88,6 @@ goes_from : (s : Sizes) (first : First) (kept : Kept) (e : History) (tag : ℕ) 
 goes_from s first kept e tag [] queue progress = record { progress = progress; holds = λ p held. held; at_least = omega arith; at_most = omega arith }
 goes_from s first kept e tag (task ∷ others) queue progress = by_head (has_tag tag task) refl
   where
-    now : Bool → Kept
-    now b = record kept { tasks = cond (not b) (task ∷ without_tag tag others) (without_tag tag others); programmed = if b then 0 else kept.programmed }
     by_head : (b : Bool) → has_tag tag task ≡ b
         → GoesFrom s first (with_tasks (task ∷ others) kept) (record kept { tasks = cond (not b) (task ∷ without_tag tag others) (without_tag tag others); programmed = if b then 0 else kept.programmed }) e (cond b (task ∷ filter (has_tag tag) others) (filter (has_tag tag) others))
     by_head false is = record {

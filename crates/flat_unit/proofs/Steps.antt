@@ -104,7 +104,7 @@ pub record FitsWire (s : Sizes) (task : Task) : Type 0 where
   pub block : s.block < 2 ^ 16
   pub expected : task.expected < 2 ^ 32
 
-piece_fits : (s : Sizes) (task : Task) (command : Cdb) (bytes : List ℕ) → s.block < 2 ^ 16 → IsPiece s task command bytes → length bytes < 2 ^ 16
+pub piece_fits : (s : Sizes) (task : Task) (command : Cdb) (bytes : List ℕ) → s.block < 2 ^ 16 → IsPiece s task command bytes → length bytes < 2 ^ 16
 piece_fits s task (Read lba n) bytes fits is = omega arith
 piece_fits s task (HpbRead lba entry n id) bytes fits is = omega arith
 piece_fits s task Capacity bytes fits is = let e : length bytes ≡ 8 = ap length is in omega arith

@@ -57,7 +57,7 @@ some_candidate s unit [] p = omega arith
 some_candidate s unit (x ∷ e) p = seen p _ (shown s (tasks_after s e) x) (folded s p (leaving (tasks_after s e) x) (candidates s unit e p) (some_candidate s unit e p))
 
 -- what a UPIU that is written ends, by its kind, tag and status
-out_kind : (v : Upiu) → (upiu_at (upiu_out v)).kind ≡ v.kind
+pub out_kind : (v : Upiu) → (upiu_at (upiu_out v)).kind ≡ v.kind
 unfolding upiu_at upiu_out
 out_kind v = ap (λ (k : Option Kind). unwrap_or k NopOut) (kind_of-code v.kind)
 

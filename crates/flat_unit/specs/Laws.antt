@@ -1,5 +1,5 @@
 -- Words for what holds of all histories.
-use Rattle.std.specs.Prelude.{◌≡◌, ◌<◌, ◌^◌, ℕ, zero, suc, ◌+◌, Bool, List, [], ◌∷◌, length, Option, Some, None, if◌then◌else◌}
+use Rattle.std.specs.Prelude.{◌≡◌, ◌<◌, ◌^◌, ℕ, zero, suc, ◌+◌, Bool, List, [], ◌∷◌, length, map, ◌*◌, Option, Some, None, if◌then◌else◌}
 use Rattle.std.specs.List.{AllByRecursion}
 use Rattle.flash_pages.specs.Place.{Place}
 use Rattle.hex.specs.Hex.{IsBytes}
@@ -63,3 +63,10 @@ ChangesNothing _ = ⊥
 pub record MovedAll (s : Sizes) (task : Task) : Type 0 where
   pub sent : task.sent ≡ bytes_given s task.command
   pub come : length task.come ≡ bytes_taken s task.command
+
+-- what a read of this unit from this LBA on has sent: these blocks, in order, each of them whole
+pub record HasSent (s : Sizes) (lun lba sent : ℕ) (ws : List Shown) : Type 0 where
+  pub count : ℕ
+  pub sent_whole : sent ≡ s.block * count
+  pub places : map (λ (w : Shown). w.place) ws ≡ places_from lun lba count
+  pub blocks : AllByRecursion (λ (w : Shown). length w.block ≡ s.block) ws

@@ -1,15 +1,15 @@
 //! What holds of all histories. Each function does nothing: its contract is the law.
-ghost use Rattle.std.specs.Prelude.{◌≡◌, ◌<◌, ◌+◌, ℕ, true, List, [], ◌∷◌, Some, length, slice_range};
+ghost use Rattle.std.specs.Prelude.{◌≡◌, ◌<◌, ◌+◌, ◌^◌, ℕ, true, List, [], ◌∷◌, Some, length, map, slice_range};
 ghost use Rattle.flash_pages.specs.Place.{Place};
 ghost use Rattle.hpb_cdb.specs.Cdb.{needed_by};
 ghost use Rattle.hpb_cdb.specs.declared.cdb.Cdb.{Cdb};
-ghost use Rattle.hpb_cdb.specs.declared.cdb.Cdb.TheVariants.{Write};
+ghost use Rattle.hpb_cdb.specs.declared.cdb.Cdb.TheVariants.{Read, Write};
 ghost use Rattle.flat_unit.specs.declared.event.Event.{Event};
 ghost use Rattle.flat_unit.specs.declared.event.Event.TheVariants.{Device};
 ghost use Rattle.flat_unit.specs.Command.{needed};
 ghost use Rattle.flat_unit.specs.Contents.{Block, Shown, candidates, is_among, leaving, offset_in, shown};
 ghost use Rattle.flat_unit.specs.History.{History, ◌▹◌};
-ghost use Rattle.flat_unit.specs.Laws.{ChangesNothing, FirstAlone, HaveRoom, MovedAll};
+ghost use Rattle.flat_unit.specs.Laws.{ChangesNothing, FirstAlone, HaveRoom, MovedAll, places_from, shown_by_first};
 ghost use Rattle.flat_unit.specs.Print.{print};
 ghost use Rattle.flat_unit.specs.Queue.{tasks_after};
 ghost use Rattle.flat_unit.specs.Sizes.{Sizes, limits_of};
@@ -68,4 +68,12 @@ pub fn given_and_taken()
 /// Two different histories have different texts.
 pub fn texts_tell_histories()
     ensures { (e f : History) → HaveRoom e → HaveRoom f → print e ≡ print f → e ≡ f }
+{}
+
+/// A read that is answered GOOD has sent exactly its blocks, in order.
+pub fn good_read_is_in_order()
+    ensures { (s : Sizes) (u : List Block) (e : History) (bytes : List ℕ) (task : Task) (lba n : ℕ)
+        → 0 < s.block → s.block < 2 ^ 16 → SoundSoFar s u (e ▹ Device bytes)
+        → leaving (tasks_after s e) (Device bytes) ≡ record { task = task; good = true } ∷ [] → task.command ≡ Read lba n
+        → map (λ (w : Shown). w.place) (shown_by_first s e) ≡ places_from task.lun lba n }
 {}

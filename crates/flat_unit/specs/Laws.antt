@@ -3,6 +3,8 @@ use Rattle.std.specs.Prelude.{◌≡◌, ◌<◌, ◌^◌, ℕ, zero, suc, ◌+�
 use Rattle.std.specs.List.{AllByRecursion}
 use Rattle.flash_pages.specs.Place.{Place}
 use Rattle.hex.specs.Hex.{IsBytes}
+use Rattle.upiu_wire.specs.declared.fault.WireFault.{WireFault}
+use Rattle.upiu_wire.specs.WireFault.{number_of, wire_fault_of}
 use Rattle.flat_unit.specs.declared.event.Event.{Event}
 use Rattle.flat_unit.specs.declared.event.Event.TheVariants.{Host, Device, Moved, Failed, Cleared, Switched, Gone}
 use Rattle.flat_unit.specs.Command.{bytes_given, bytes_taken}
@@ -70,3 +72,9 @@ pub record HasSent (s : Sizes) (lun lba sent : ℕ) (ws : List Shown) : Type 0 w
   pub sent_whole : sent ≡ s.block * count
   pub places : map (λ (w : Shown). w.place) ws ≡ places_from lun lba count
   pub blocks : AllByRecursion (λ (w : Shown). length w.block ≡ s.block) ws
+
+-- the bytes are no UPIU, and this is the number of the first condition that they break
+pub record IsRejectedFor (bytes : List ℕ) (reason : ℕ) : Type 0 where
+  pub fault : WireFault
+  pub found : wire_fault_of bytes ≡ Some fault
+  pub number : number_of fault ≡ reason

@@ -202,6 +202,12 @@ LineTo s Drain p now = Drains s (without_runs p) now
 LineTo s ResetLine p now = now ≡ reset p
 LineTo s Blank p now = now ≡ with_run s p
 
+-- what a line may lead to that was cut after one of its calls
+abbrev pub CutLineTo : Sizes → Line → Progress → Progress → Type 0
+CutLineTo s (Steps n) p now = (k : ℕ) × (k ≤ n) × StepsTo s k (with_run s p) now
+CutLineTo s Drain p now = (k : ℕ) × (k ≤ enough s (tasks_at s p)) × StepsTo s k (without_runs p) now
+CutLineTo s line p now = LineTo s line p now
+
 -- a trace leads from one moment to another
 abbrev pub Replays : Sizes → List Line → Progress → Progress → Type 0
 Replays s [] p now = now ≡ p

@@ -1,17 +1,21 @@
 //! What holds of all histories. Each function does nothing: its contract is the law.
-ghost use Rattle.std.specs.Prelude.{◌≡◌, ◌<◌, ◌+◌, ◌^◌, ℕ, true, List, [], ◌∷◌, Some, length, map, slice_range};
+ghost use Rattle.std.specs.Prelude.{◌≡◌, ◌<◌, ◌≤◌, ◌+◌, ◌^◌, ℕ, Bool, true, List, [], ◌∷◌, Some, length, map, slice_range};
 ghost use Rattle.flash_pages.specs.Place.{Place};
 ghost use Rattle.hpb_cdb.specs.Cdb.{needed_by};
 ghost use Rattle.hpb_cdb.specs.declared.cdb.Cdb.{Cdb};
 ghost use Rattle.hpb_cdb.specs.declared.cdb.Cdb.TheVariants.{Read, Write};
+ghost use Rattle.upiu_wire.specs.WireFault.{number_of, wire_fault_of};
+ghost use Rattle.upiu_wire.specs.Written.{reject_upiu};
+ghost use Rattle.upiu_wire.specs.declared.fault.WireFault.{WireFault};
 ghost use Rattle.flat_unit.specs.declared.event.Event.{Event};
 ghost use Rattle.flat_unit.specs.declared.event.Event.TheVariants.{Device};
 ghost use Rattle.flat_unit.specs.Command.{needed};
 ghost use Rattle.flat_unit.specs.Contents.{Block, Shown, candidates, is_among, leaving, offset_in, shown};
 ghost use Rattle.flat_unit.specs.History.{History, ◌▹◌};
-ghost use Rattle.flat_unit.specs.Laws.{ChangesNothing, FirstAlone, HaveRoom, MovedAll, places_from, shown_by_first};
+ghost use Rattle.flat_unit.specs.Laws.{ChangesNothing, FirstAlone, HaveRoom, IsRejectedFor, MovedAll, places_from, shown_by_first};
 ghost use Rattle.flat_unit.specs.Print.{print};
 ghost use Rattle.flat_unit.specs.Queue.{tasks_after};
+ghost use Rattle.flat_unit.specs.Reply.{fault_rejection, reply_of};
 ghost use Rattle.flat_unit.specs.Sizes.{Sizes, limits_of};
 ghost use Rattle.flat_unit.specs.Sound.{SoundSoFar};
 ghost use Rattle.flat_unit.specs.Task.{Task};
@@ -76,4 +80,13 @@ pub fn good_read_is_in_order()
         → 0 < s.block → s.block < 2 ^ 16 → SoundSoFar s u (e ▹ Device bytes)
         → leaving (tasks_after s e) (Device bytes) ≡ record { task = task; good = true } ∷ [] → task.command ≡ Read lba n
         → map (λ (w : Shown). w.place) (shown_by_first s e) ≡ places_from task.lun lba n }
+{}
+
+/// Bytes that are no UPIU are answered by REJECT with the number of the first condition that they break, and a
+/// REJECT with one of these six numbers answers nothing else.
+pub fn rejects_what_is_no_upiu()
+    ensures all { (s : Sizes) (on : Bool) (tasks : List Task) (bytes : List ℕ) (fault : WireFault)
+        → wire_fault_of bytes ≡ Some fault → reply_of s on tasks bytes ≡ Some (fault_rejection bytes (number_of fault)) }
+    ensures only { (s : Sizes) (on : Bool) (tasks : List Task) (bytes : List ℕ) (lun tag reason : ℕ)
+        → reason ≤ 6 → reply_of s on tasks bytes ≡ Some (reject_upiu lun tag reason) → IsRejectedFor bytes reason }
 {}

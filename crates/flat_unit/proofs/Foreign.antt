@@ -75,11 +75,15 @@ foreign_ended s first kept e task others fits at =
     record {
       keeps = device_changes s (on_after e) (tasks_after s e) v consistent ∙ ap (λ (t : List Task). after_sent v v.kind t) at.keeps ∙ response_changes task others 2 (task.expected - task.sent - length task.come) (fixed_out chip_failed) alone.0;
       switch = at.switch;
-      sound = sent_sound s first.unit e (upiu_out v) at.sound
-          (subst (λ (t : List Task). MaySend s t (upiu_out v)) (sym at.keeps) (Check chip_failed, may_end_failed task.command, refl),
-          subst (λ (w : Option Shown). IsCandidate (candidates s first.unit e) w) (sym (device_shows s (tasks_after s e) v consistent)) tt);
-      caused = (at.caused, subst (λ (due : List Event). EventHasCause s (Unit {0}) first.next e (Device (upiu_out v)) due) (sym at.sound.nothing_owed)
-          (subst (λ (code : Option ℕ). SendHasCause s (Unit {0}) first.next e code) (sym (device_code v consistent)) (cause_foreign s (Unit {0}) first.next e tt)));
+      sound = sent_sound s first.unit e (upiu_out v) at.sound (
+        subst (λ (t : List Task). MaySend s t (upiu_out v)) (sym at.keeps) (Check chip_failed, may_end_failed task.command, refl),
+        subst (λ (w : Option Shown). IsCandidate (candidates s first.unit e) w) (sym (device_shows s (tasks_after s e) v consistent)) tt,
+      );
+      caused = (
+        at.caused,
+        subst (λ (due : List Event). EventHasCause s (Unit {0}) first.next e (Device (upiu_out v)) due) (sym at.sound.nothing_owed)
+            (subst (λ (code : Option ℕ). SendHasCause s (Unit {0}) first.next e code) (sym (device_code v consistent)) (cause_foreign s (Unit {0}) first.next e tt)),
+      );
     }
   where
     residual_fits : (t : Task) → t.expected < 2 ^ 32 → t.expected - t.sent - length t.come < 2 ^ 32

@@ -187,7 +187,7 @@ goes_asked s first kept e task others count consistent progress = record {
 }
 
 -- RESPONSE to the first task: it alone leaves
-response_leaves : (task : Task) (others : List Task) (status residual : ℕ) (segment : List ℕ) → IsAlone task others
+pub response_leaves : (task : Task) (others : List Task) (status residual : ℕ) (segment : List ℕ) → IsAlone task others
     → answered (response_upiu task.lun task.tag status residual segment) Response (task ∷ others) ≡ record { task = task; good = status == 0 } ∷ []
 response_leaves task others status residual segment alone =
     ap (λ (b : Bool). leaving_all (status == 0) (cond b (task ∷ filter (has_tag task.tag) others) (filter (has_tag task.tag) others))) (same_tag task.tag)

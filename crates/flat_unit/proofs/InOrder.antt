@@ -88,6 +88,7 @@ fewer_tasks s tag (task ∷ others) ws queue had = by_head (has_tag tag task) re
         apart : (b : Bool) → (first.tag == task.tag) ≡ b → (b || list_any (has_tag task.tag) rest) ≡ false → (task.tag == first.tag) ≡ false
         apart true is other = absurd (false≢true (sym other))
         apart false is other = grind (arith, nat_tests)
+
     by_head : (b : Bool) → has_tag tag task ≡ b → After s (task ∷ others) (cond (not b) (task ∷ without_tag tag others) (without_tag tag others)) ws
     by_head false is = stays_first s (task.tag == task.tag) (task ∷ others) ws (same_tag task.tag) had
     by_head true is =
@@ -137,13 +138,16 @@ host_sent s on tasks ws bytes had = by_reply (reply_of s on tasks bytes)
     by_cdb : (r : Result Cdb CdbFault) → After s tasks (with_command tasks (upiu_at bytes) r) ws
     by_cdb (Ok command) = one_more s tasks (task_of (upiu_at bytes) command) ws (record { asked = refl; come = refl; sent = refl }) had
     by_cdb (Err fault) = same_tasks s tasks ws had
+
     by_head : (ts : List Task) → FirstSent s ts ws → After s ts (change_head (with_data (upiu_at bytes).segment) ts) ws
     by_head [] had = had
     by_head (task ∷ others) had = head_asks s task task.asked (task.come ++ (upiu_at bytes).segment) others ws had
+
     by_kind : (k : Kind) → After s tasks (after_kept s tasks (upiu_at bytes) k) ws
     by_kind Command = by_cdb (command_of s (upiu_at bytes).cdb)
     by_kind DataOut = by_head tasks had
     by_kind _ = same_tasks s tasks ws had
+
     by_reply : (r : Option Upiu) → After s tasks (after_reply s tasks (upiu_at bytes) r) ws
     by_reply (Some v) = same_tasks s tasks ws had
     by_reply None = by_kind (upiu_at bytes).kind
@@ -171,7 +175,7 @@ with_fields : (s : Sizes) (u : Upiu) (task : Task) (others : List Task) (ws : Li
     → FirstSent s (after_sent u DataIn (task ∷ others)) (shown_next (shown_by_kind s u DataIn (task ∷ others)) (keeps_head (task ∷ others) (after_sent u DataIn (task ∷ others))) ws)
 with_fields s u task others ws bytes some fits allows tag count segment had =
     subst (λ (b : Bool). FirstSent s ((if b then with_sent u.count task else task) ∷ others)
-        (shown_next (if b then shown_at u (next_place s task task.command) else None) (task.tag == (if b then with_sent u.count task else task).tag) ws))
+    (shown_next (if b then shown_at u (next_place s task task.command) else None) (task.tag == (if b then with_sent u.count task else task).tag) ws))
     (sym (ap (λ (t : ℕ). task.tag == t) tag ∙ same_tag task.tag))
     (subst (λ (n : ℕ). FirstSent s (with_sent n task ∷ others) (shown_next (shown_at u (next_place s task task.command)) (task.tag == task.tag) ws)) (sym count)
     (subst (λ (o : Option Shown). FirstSent s (with_sent (length bytes) task ∷ others) (shown_next o (task.tag == task.tag) ws))
@@ -193,6 +197,7 @@ sent_device s (task ∷ others) ws bytes some fits queue (a, allows, is) had = s
   where
     by_kind : (k : Kind) (u : Upiu) → u.kind ≡ k → FirstSent s (after_sent u k (task ∷ others)) (shown_next (shown_by_kind s u k (task ∷ others)) (keeps_head (task ∷ others) (after_sent u k (task ∷ others))) ws) → ByUpiu s (task ∷ others) ws u
     by_kind k u same held = subst (λ (x : Kind). FirstSent s (after_sent u x (task ∷ others)) (shown_next (shown_by_kind s u x (task ∷ others)) (keeps_head (task ∷ others) (after_sent u x (task ∷ others))) ws)) (sym same) held
+
     by_answer : (a : Answer) → Allows s task a → ByUpiu s (task ∷ others) ws (upiu_at (upiu_out (upiu_of s task a)))
     by_answer (Data piece) allows =
         let fit : length piece < 2 ^ 16 = piece_fits s task task.command piece fits allows.1 in
@@ -210,7 +215,7 @@ first_sent s u (Host bytes ∷ e) some fits sound = host_sent s (on_after e) (ta
 first_sent s u (Device bytes ∷ e) some fits sound = ⊎_elim
     (λ (may : MaySend s (tasks_after s e) bytes). sent_device s (tasks_after s e) (shown_by_first s e) bytes some fits (queue_after s e) may (first_sent s u e some fits sound.0))
     (λ (badly : EndsBadly (tasks_after s e) (leaving (tasks_after s e) (Device bytes)) × IsNoData (upiu_at bytes).kind).
-        other_sent s (upiu_at bytes) (upiu_at bytes).kind (tasks_after s e) (shown_by_first s e) (queue_after s e) badly.1 (first_sent s u e some fits sound.0))
+    other_sent s (upiu_at bytes) (upiu_at bytes).kind (tasks_after s e) (shown_by_first s e) (queue_after s e) badly.1 (first_sent s u e some fits sound.0))
     (sent_or_replied s u e bytes sound)
 first_sent s u (Gone tag ∷ e) some fits sound = fewer_tasks s tag (tasks_after s e) (shown_by_first s e) (queue_after s e) (first_sent s u e some fits sound.0)
 first_sent s u (Reset ∷ e) some fits sound = none_left (tasks_after s e) (first_sent s u e some fits sound.0)

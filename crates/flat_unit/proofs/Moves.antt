@@ -76,9 +76,13 @@ stands_sent s first kept now e v goes may candidate cause at =
       holds = λ p place. holds_on s first kept now e v p goes place (tasks_after s e) at.keeps (at.holds p place);
       at_least = omega (arith, ended, at.at_least, goes.at_least);
       at_most = omega (arith, at.at_most, goes.at_most);
-      sound = sent_sound s first.unit e (upiu_out v) at.sound
-          (subst (λ (t : List Task). MaySend s t (upiu_out v)) (sym at.keeps) may,
-          subst (λ (w : Option Shown). IsCandidate (candidates s first.unit e) w) (sym shows) candidate);
-      caused = (at.caused, subst (λ (due : List Event). EventHasCause s ⊥ first.next e (Device (upiu_out v)) due) (sym at.sound.nothing_owed)
-          (subst (λ (code : Option ℕ). SendHasCause s ⊥ first.next e code) (sym (device_code v goes.consistent)) cause));
+      sound = sent_sound s first.unit e (upiu_out v) at.sound (
+        subst (λ (t : List Task). MaySend s t (upiu_out v)) (sym at.keeps) may,
+        subst (λ (w : Option Shown). IsCandidate (candidates s first.unit e) w) (sym shows) candidate,
+      );
+      caused = (
+        at.caused,
+        subst (λ (due : List Event). EventHasCause s ⊥ first.next e (Device (upiu_out v)) due) (sym at.sound.nothing_owed)
+            (subst (λ (code : Option ℕ). SendHasCause s ⊥ first.next e code) (sym (device_code v goes.consistent)) cause),
+      );
     }

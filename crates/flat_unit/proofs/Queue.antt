@@ -177,7 +177,7 @@ accepted s on tasks v =
     by_cdb alone lun room (Ok command) reads =
         either (Accepts s tasks v) (is_hpb command && not on) (λ _ is. absurd (not_none _ is)) (λ _.
         either (Accepts s tasks v) (nat_lt v.first (needed s command)) (λ _ is. absurd (not_none _ is)) (λ enough is.
-            (command, record { alone = alone; lun = grind (arith, nat_tests); room = grind (arith, nat_tests); reads = reads; expected = grind (arith, nat_tests) })))
+        (command, record { alone = alone; lun = grind (arith, nat_tests); room = grind (arith, nat_tests); reads = reads; expected = grind (arith, nat_tests) })))
 
 -- the task that is kept of an accepted command
 accepted_task : (s : Sizes) (tasks : List Task) (v : Upiu) (command : Cdb) → IsAccepted s tasks v command → IsQueue s tasks → IsQueue s (tasks ++ task_of v command ∷ [])
@@ -190,6 +190,7 @@ accepted_task s tasks v command is q = record {
     served_cdb : (b : Bool) → (if b then cdb_of (limits_of s) v.cdb else Err Opcode) ≡ Ok command → cdb_of (limits_of s) v.cdb ≡ Ok command
     served_cdb true is = is
     served_cdb false is = cc
+
     cdb : IsCdb v.cdb (limits_of s) command
     cdb = is_cdb-cdb_of (limits_of s) v.cdb command (served_cdb _ is.reads)
 
@@ -208,6 +209,7 @@ host_queue s on tasks bytes q = by_fault (wire_fault_of bytes)
     by_reply : (r : Option Upiu) → reply_by_kind (upiu_at bytes).kind s on tasks (upiu_at bytes) ≡ r → IsQueue s (after_reply s tasks (upiu_at bytes) r)
     by_reply (Some reply) is = q
     by_reply None is = kept_queue (upiu_at bytes).kind s on tasks (upiu_at bytes) is q
+
     by_fault : (fault : Option WireFault) → IsQueue s (after_reply s tasks (upiu_at bytes) (reply_by_fault s on tasks bytes fault))
     by_fault (Some fault) = q
     by_fault None = by_reply (reply_by_kind (upiu_at bytes).kind s on tasks (upiu_at bytes)) refl

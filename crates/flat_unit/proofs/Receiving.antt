@@ -72,20 +72,24 @@ stands_host s first kept e bytes silent at = by_kind (upiu_at bytes).kind refl
     became : (ts : List Task) → tasks_changed s kept.on kept.tasks (Host bytes) ≡ ts → Stands s first (with_tasks ts kept) (e ▹ Host bytes)
         → Stands s first (with_tasks (tasks_changed s kept.on kept.tasks (Host bytes)) kept) (e ▹ Host bytes)
     became ts is stands = subst (λ (t : List Task). Stands s first (with_tasks t kept) (e ▹ Host bytes)) (sym is) stands
+
     same : tasks_changed s kept.on kept.tasks (Host bytes) ≡ kept.tasks → Stands s first (with_tasks (tasks_changed s kept.on kept.tasks (Host bytes)) kept) (e ▹ Host bytes)
     same is = became kept.tasks is (host_kept s first kept e bytes kept.tasks silent is at.progress (λ p held. held) at)
+
     by_cdb : (upiu_at bytes).kind ≡ Command → (r : Result Cdb CdbFault) → command_of s (upiu_at bytes).cdb ≡ r
         → Stands s first (with_tasks (tasks_changed s kept.on kept.tasks (Host bytes)) kept) (e ▹ Host bytes)
     by_cdb kind (Ok command) reads = became (kept.tasks ++ task_of (upiu_at bytes) command ∷ [])
         (kept_of_kind s kept.on kept.tasks bytes Command kind silent ∙ ap (with_command kept.tasks (upiu_at bytes)) reads)
         (stands_accepted s first kept e bytes command silent kind reads at)
     by_cdb kind (Err fault) reads = same (kept_of_kind s kept.on kept.tasks bytes Command kind silent ∙ ap (with_command kept.tasks (upiu_at bytes)) reads)
+
     by_head : (upiu_at bytes).kind ≡ DataOut → (ts : List Task) → kept.tasks ≡ ts
         → Stands s first (with_tasks (tasks_changed s kept.on kept.tasks (Host bytes)) kept) (e ▹ Host bytes)
     by_head kind [] is = same (kept_of_kind s kept.on kept.tasks bytes DataOut kind silent ∙ ap (change_head (with_data (upiu_at bytes).segment)) is ∙ sym is)
     by_head kind (task ∷ others) is =
         became (with_data (upiu_at bytes).segment task ∷ others) (kept_of_kind s kept.on kept.tasks bytes DataOut kind silent ∙ ap (change_head (with_data (upiu_at bytes).segment)) is)
         (stands_taken s first kept e bytes task others (ap (λ (t : List Task). reply_of s kept.on t bytes) (sym is) ∙ silent) kind (stands_with s first kept e (task ∷ others) is at))
+
     by_kind : (k : Kind) → (upiu_at bytes).kind ≡ k → Stands s first (with_tasks (tasks_changed s kept.on kept.tasks (Host bytes)) kept) (e ▹ Host bytes)
     by_kind Command is = by_cdb is (command_of s (upiu_at bytes).cdb) refl
     by_kind DataOut is = by_head is kept.tasks refl

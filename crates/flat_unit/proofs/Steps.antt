@@ -280,6 +280,7 @@ stands_accepted s first kept e bytes command silent kind reads at =
     progress_by : (tasks : List Task) → HasProgress s kept.programmed tasks → HasProgress s kept.programmed (tasks ++ task_of (upiu_at bytes) command ∷ [])
     progress_by [] is = subst (λ (n : ℕ). HasProgress s n (task_of (upiu_at bytes) command ∷ [])) (sym is) (no_progress s (task_of (upiu_at bytes) command ∷ []))
     progress_by (task ∷ tasks) is = is
+
     holds_by : (p : Place) (tasks : List Task) → HasProgress s kept.programmed tasks
         → HoldsAt s (with_tasks tasks kept) (candidates s first.unit e p) p → HoldsAt s (with_tasks (tasks ++ task_of (upiu_at bytes) command ∷ []) kept) (candidates s first.unit e p) p
     holds_by p [] is held =
@@ -301,8 +302,10 @@ written_grows s (Write lba n) task more p block is = by_tests (is_among task.lun
   where
     start : ℕ
     start = offset_in s lba p
+
     end : ℕ
     end = offset_in s lba p + s.block
+
     by_tests : (a b c : Bool) → nat_le (offset_in s lba p + s.block) (length task.come) ≡ b → nat_le (offset_in s lba p + s.block) (length (task.come ++ more)) ≡ c
         → (if a && b then Some (slice_range task.come (offset_in s lba p) (offset_in s lba p + s.block)) else None) ≡ Some block
         → (if a && c then Some (slice_range (task.come ++ more) (offset_in s lba p) (offset_in s lba p + s.block)) else None) ≡ Some block
@@ -356,9 +359,11 @@ stands_reset s first kept e at =
     none_good : (tasks : List Task) (a : ℕ) → fold (λ (n : ℕ) (l : Leaving). n + blocks_ended l) a (leaving_all false tasks) ≡ a
     none_good [] a = refl
     none_good (task ∷ tasks) a = none_good tasks (a + 0) ∙ omega arith
+
     fold_stays : (p : Place) (block : Block) (tasks : List Task) (blocks : List Block) → Contains blocks block → Contains (fold_left s blocks (leaving_all false tasks) p) block
     fold_stays p block [] blocks held = held
     fold_stays p block (task ∷ tasks) blocks held = fold_stays p block tasks _ (stays_block blocks block (block_written s task task.command p) held)
+
     reset_holds : (p : Place) (tasks : List Task) → HasProgress s kept.programmed tasks → HoldsAt s (with_tasks tasks kept) (candidates s first.unit e p) p
         → Contains (fold_left s (candidates s first.unit e p) (leaving_all false tasks) p) (block_at s kept.unit p)
     reset_holds p [] progress held = held
@@ -472,8 +477,8 @@ programmed_holds : (s : Sizes) (task : Task) (lba n k : ℕ) (unit allowed : Lis
     → k < n → length unit ≡ s.luns * s.units → IsPlace s.luns s.units q → IsPlace s.luns s.units (record { lun = task.lun; lba = lba + k }) → s.block * k + s.block ≤ length task.come
     → MatchBool (is_among task.lun lba k q) (block_written s task (Write lba n) q ≡ Some (block_at s unit q)) (Contains allowed (block_at s unit q))
     → MatchBool (is_among task.lun lba (k + 1) q)
-        (block_written s task (Write lba n) q ≡ Some (block_at s (slice_set unit (index_of s.units (record { lun = task.lun; lba = lba + k })) (slice_range task.come (s.block * k) (s.block * k + s.block))) q))
-        (Contains allowed (block_at s (slice_set unit (index_of s.units (record { lun = task.lun; lba = lba + k })) (slice_range task.come (s.block * k) (s.block * k + s.block))) q))
+    (block_written s task (Write lba n) q ≡ Some (block_at s (slice_set unit (index_of s.units (record { lun = task.lun; lba = lba + k })) (slice_range task.come (s.block * k) (s.block * k + s.block))) q))
+    (Contains allowed (block_at s (slice_set unit (index_of s.units (record { lun = task.lun; lba = lba + k })) (slice_range task.come (s.block * k) (s.block * k + s.block))) q))
 programmed_holds s task lba n k unit allowed q true same more whole is_place here bytes held =
     let index : ℕ = task.lun * s.units + (lba + k) in
     let block : Block = slice_range task.come (s.block * k) (s.block * k + s.block) in
@@ -486,8 +491,8 @@ programmed_holds s task lba n k unit allowed q false same more whole is_place he
     let index : ℕ = task.lun * s.units + (lba + k) in
     let block : Block = slice_range task.come (s.block * k) (s.block * k + s.block) in
     let apart : (q.lun * s.units + q.lba ≡ index → ⊥) = λ e.
-        let one = same_lun q.lun task.lun s.units q.lba (lba + k) is_place.lba here.lba e in
-        other_place task.lun (lba + k) q same (sym one) (sym (same_lba q.lun task.lun s.units q.lba (lba + k) one e)) in
+    let one = same_lun q.lun task.lun s.units q.lba (lba + k) is_place.lba here.lba e in
+    other_place task.lun (lba + k) q same (sym one) (sym (same_lba q.lun task.lun s.units q.lba (lba + k) one e)) in
     let stays : block_at s (set unit index block) q ≡ block_at s unit q = get_or-set_other unit index (q.lun * s.units + q.lba) block [] apart in
     subst (λ (b : Bool). MatchBool b (block_written s task (Write lba n) q ≡ Some (block_at s (set unit index block) q)) (Contains allowed (block_at s (set unit index block) q))) (sym (among_next task.lun lba k q same))
     (subst (λ (x : Block). MatchBool (is_among task.lun lba k q) (block_written s task (Write lba n) q ≡ Some x) (Contains allowed x)) (sym stays) held)
@@ -520,7 +525,9 @@ stands_programmed s first kept e task others lba n is more come whole at =
   where
     k : ℕ
     k = kept.programmed
+
     place : Place
     place = record { lun = task.lun; lba = lba + kept.programmed }
+
     now : Kept
     now = programmed_more s (task ∷ others) task lba kept

@@ -271,16 +271,20 @@ replied_first s u e host bytes comes = by_reply (reply_of s (on_after e) (tasks_
   where
     tasks : List Task
     tasks = tasks_after s e
+
     by_reply : (r : Option Upiu) → reply_of s (on_after e) (tasks_after s e) host ≡ r → Comes s u (e ▹ Host host) (reply_events (effects_of s (on_after e) (tasks_after s e) host) r) (Device bytes)
         → MaySend s (tasks_after s (e ▹ Host host)) bytes ⊎ (EndsBadly (after_reply s (tasks_after s e) (upiu_at host) (reply_of s (on_after e) (tasks_after s e) host)) (leaving (after_reply s (tasks_after s e) (upiu_at host) (reply_of s (on_after e) (tasks_after s e) host)) (Device bytes)) × IsNoData (upiu_at bytes).kind)
     by_reply (Some v) is comes =
         let same : bytes ≡ upiu_out v = cc in
         let kept : after_reply s (tasks_after s e) (upiu_at host) (reply_of s (on_after e) (tasks_after s e) host) ≡ tasks_after s e = ap (after_reply s (tasks_after s e) (upiu_at host)) is in
         let found = (reply_ends s (on_after e) (tasks_after s e) host (queue_after s e)).ends v is in
-        inr (subst (λ (ts : List Task). EndsBadly ts (leaving ts (Device bytes))) (sym kept)
-        (subst (λ (b : List ℕ). EndsBadly (tasks_after s e) (leaving (tasks_after s e) (Device b))) (sym same)
-        (subst (EndsBadly (tasks_after s e)) (sym (out_leaves (tasks_after s e) v))
-        found.0)), subst (λ (b : List ℕ). IsNoData (upiu_at b).kind) (sym same) (subst IsNoData (sym (out_kind v)) (reply_is_no_data v v.kind found.1)))
+        inr (
+          subst (λ (ts : List Task). EndsBadly ts (leaving ts (Device bytes))) (sym kept)
+              (subst (λ (b : List ℕ). EndsBadly (tasks_after s e) (leaving (tasks_after s e) (Device b))) (sym same)
+              (subst (EndsBadly (tasks_after s e)) (sym (out_leaves (tasks_after s e) v))
+              found.0)),
+          subst (λ (b : List ℕ). IsNoData (upiu_at b).kind) (sym same) (subst IsNoData (sym (out_kind v)) (reply_is_no_data v v.kind found.1)),
+        )
     by_reply None is comes = inl comes.0
 
 pub sent_or_replied : (s : Sizes) (u : List Block) (e : History) (bytes : List ℕ) → SoundSoFar s u (e ▹ Device bytes)
@@ -355,11 +359,13 @@ good_write s u e bytes task lba n p sound leaves is among =
   where
     among_below : is_among task.lun lba n p ≡ true → p.lba - lba + 1 ≤ n
     among_below is = grind (arith, nat_tests)
+
     inside : length task.come ≡ s.block * n → nat_le (offset_in s lba p + s.block) (length task.come) ≡ true
     inside come =
         let below : p.lba - lba + 1 ≤ n = among_below among in
         let e : s.block * (p.lba - lba + 1) ≤ s.block * n = mul-le-mul_left s.block below in
         grind (arith, nat_tests)
+
     has_all : length task.come ≡ s.block * n → block_written s task (Write lba n) p ≡ Some (slice_range task.come (offset_in s lba p) (offset_in s lba p + s.block))
     has_all come =
         ap (λ (b : Bool). if b && nat_le (offset_in s lba p + s.block) (length task.come) then Some (slice_range task.come (offset_in s lba p) (offset_in s lba p + s.block)) else None) among

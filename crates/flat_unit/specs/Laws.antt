@@ -1,4 +1,4 @@
--- Words for what holds of all histories.
+-- Words for what holds of all histories (this project's own).
 use Rattle.std.specs.Prelude.{◌≡◌, ◌<◌, ◌^◌, ℕ, zero, suc, ◌+◌, Bool, List, [], ◌∷◌, length, map, ◌*◌, Option, Some, None, if◌then◌else◌}
 use Rattle.std.specs.List.{AllByRecursion}
 use Rattle.flash_pages.specs.Place.{Place}

@@ -1,4 +1,4 @@
--- The sizes of a device, and which requests it serves.
+-- The sizes of a device, and which requests it serves (this project's own).
 use Rattle.std.specs.Prelude.{ℕ, Bool, List}
 use Rattle.hpb_cdb.specs.declared.limits.Limits.{Limits}
 

@@ -1,4 +1,5 @@
--- A sound history: each reply is the one that is due, and each other UPIU is one that the tasks and the flat unit allow.
+-- A sound history: each reply is the one that is due, and each other UPIU is one that the tasks and the flat unit allow
+-- (this project's own).
 use Rattle.std.specs.Prelude.{◌≡◌, ℕ, Bool, List, [], ◌∷◌, drop, Contains, Option, Some, None}
 use Rattle.flash_pages.specs.Place.{Place}
 use Rattle.upiu_wire.specs.Upiu.{Upiu, upiu_out}

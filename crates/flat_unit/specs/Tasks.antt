@@ -1,4 +1,4 @@
--- What holds of the tasks that a device keeps at any moment.
+-- What holds of the tasks that a device keeps at any moment (SAM: a tag names one task).
 use Rattle.std.specs.Prelude.{◌≡◌, ◌<◌, ◌≤◌, false, true, List, [], ◌∷◌}
 use Rattle.std.specs.List.{AllByRecursion, list_any}
 use Rattle.hpb_cdb.specs.Cdb.{has_good_fields, is_in_unit}

@@ -46,9 +46,19 @@ none_listed = [] ▹ Host (read_buffer 7 2 1 16) ▹ Device (data_in 7 0 (replic
 none_listed_sound : Sound small small_unit none_listed
 unfolding reply_of effects_of wire_fault_of upiu_at upiu_out kind_of cdb_of
 none_listed_sound = record {
-  so_far = (((((tt, tt),
-      ((Data (replicate 8 0xFF), (omega arith, refl), refl), tt)),
-      ((Good [], (refl, refl, omega arith), refl), tt)), tt), refl);
+  so_far = (
+    (
+      (
+        (
+          (tt, tt),
+          ((Data (replicate 8 0xFF), (omega arith, refl), refl), tt),
+        ),
+        ((Good [], (refl, refl, omega arith), refl), tt),
+      ),
+      tt,
+    ),
+    refl,
+  );
   nothing_owed = refl;
 }
 

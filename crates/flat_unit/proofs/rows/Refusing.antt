@@ -21,10 +21,31 @@ at_the_end = [] ▹ Host (read 4 0x1000 19 1) ▹ Device (data_in 4 0 (block_of 
 at_the_end_sound : Sound sizes blank_unit at_the_end
 unfolding reply_of effects_of wire_fault_of upiu_at upiu_out kind_of cdb_of
 at_the_end_sound = record {
-  so_far = (((((((((tt, tt),
-      ((Data (block_of 0), (omega arith, refl), refl), (0, omega arith, refl))),
-      ((Good [], (refl, refl, omega arith), refl), tt)), tt), refl), tt),
-      ((Good [], (refl, refl, omega arith), refl), tt)), tt), refl);
+  so_far = (
+    (
+      (
+        (
+          (
+            (
+              (
+                (
+                  (tt, tt),
+                  ((Data (block_of 0), (omega arith, refl), refl), (0, omega arith, refl)),
+                ),
+                ((Good [], (refl, refl, omega arith), refl), tt),
+              ),
+              tt,
+            ),
+            refl,
+          ),
+          tt,
+        ),
+        ((Good [], (refl, refl, omega arith), refl), tt),
+      ),
+      tt,
+    ),
+    refl,
+  );
   nothing_owed = refl;
 }
 
@@ -72,9 +93,24 @@ wrong_offset = [] ▹ Host (write 2 0x1000 0 1) ▹ Device (ready 2 0 0x1000) �
 wrong_offset_sound : Sound sizes blank_unit wrong_offset
 unfolding reply_of effects_of wire_fault_of upiu_at upiu_out kind_of cdb_of
 wrong_offset_sound = record {
-  so_far = (((((((tt, tt),
-      ((Ask 0x1000, (refl, omega arith, refl), refl), tt)), tt), refl), tt),
-      ((Data (block_of 0), (omega arith, refl), refl), (0, omega arith, refl))),
-      ((Good [], (refl, refl, omega arith), refl), tt));
+  so_far = (
+    (
+      (
+        (
+          (
+            (
+              (tt, tt),
+              ((Ask 0x1000, (refl, omega arith, refl), refl), tt),
+            ),
+            tt,
+          ),
+          refl,
+        ),
+        tt,
+      ),
+      ((Data (block_of 0), (omega arith, refl), refl), (0, omega arith, refl)),
+    ),
+    ((Good [], (refl, refl, omega arith), refl), tt),
+  );
   nothing_owed = refl;
 }

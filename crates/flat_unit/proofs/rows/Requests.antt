@@ -32,14 +32,49 @@ gone_sound : Sound sizes blank_unit (gone ▹ Gone 7
     ▹ Host (read 3 0x3000 0 3) ▹ Device (data_in 3 0 (block_of 0x22)) ▹ Device (data_in 3 0x1000 (block_of 0x22)) ▹ Device (data_in 3 0x2000 (block_of 0x11)) ▹ Device (good 3))
 unfolding reply_of effects_of wire_fault_of upiu_at upiu_out kind_of cdb_of
 gone_sound = record {
-  so_far = (((((((((((((((tt, tt),
-      ((Ask 0x3000, (refl, omega arith, refl), refl), tt)), tt),
-      ((Good [], (refl, refl, omega arith), refl), tt)), tt),
-      ((Ask 0x3000, (refl, omega arith, refl), refl), tt)), tt), tt), refl), refl), tt),
-      ((Data (block_of 0x22), (omega arith, refl), refl), (1, omega arith, refl))),
-      ((Data (block_of 0x22), (omega arith, refl), refl), (1, omega arith, refl))),
-      ((Data (block_of 0x11), (omega arith, refl), refl), (0, omega arith, refl))),
-      ((Good [], (refl, refl, omega arith), refl), tt));
+  so_far = (
+    (
+      (
+        (
+          (
+            (
+              (
+                (
+                  (
+                    (
+                      (
+                        (
+                          (
+                            (
+                              (tt, tt),
+                              ((Ask 0x3000, (refl, omega arith, refl), refl), tt),
+                            ),
+                            tt,
+                          ),
+                          ((Good [], (refl, refl, omega arith), refl), tt),
+                        ),
+                        tt,
+                      ),
+                      ((Ask 0x3000, (refl, omega arith, refl), refl), tt),
+                    ),
+                    tt,
+                  ),
+                  tt,
+                ),
+                refl,
+              ),
+              refl,
+            ),
+            tt,
+          ),
+          ((Data (block_of 0x22), (omega arith, refl), refl), (1, omega arith, refl)),
+        ),
+        ((Data (block_of 0x22), (omega arith, refl), refl), (1, omega arith, refl)),
+      ),
+      ((Data (block_of 0x11), (omega arith, refl), refl), (0, omega arith, refl)),
+    ),
+    ((Good [], (refl, refl, omega arith), refl), tt),
+  );
   nothing_owed = refl;
 }
 

@@ -24,11 +24,25 @@ read_back_holds = refl
 read_back_sound : Sound sizes blank_unit (read_back (block_of 0xA5))
 unfolding reply_of effects_of wire_fault_of upiu_at upiu_out kind_of cdb_of
 read_back_sound = record {
-  so_far = (((((((tt, tt),
-      ((Ask 4096, (refl, omega arith, refl), refl), tt)), tt),
-      ((Good [], (refl, refl, omega arith), refl), tt)), tt),
-      ((Data (block_of 0xA5), (omega arith, refl), refl), (0, omega arith, refl))),
-      ((Good [], (refl, refl, omega arith), refl), tt));
+  so_far = (
+    (
+      (
+        (
+          (
+            (
+              (tt, tt),
+              ((Ask 4096, (refl, omega arith, refl), refl), tt),
+            ),
+            tt,
+          ),
+          ((Good [], (refl, refl, omega arith), refl), tt),
+        ),
+        tt,
+      ),
+      ((Data (block_of 0xA5), (omega arith, refl), refl), (0, omega arith, refl)),
+    ),
+    ((Good [], (refl, refl, omega arith), refl), tt),
+  );
   nothing_owed = refl;
 }
 
@@ -46,10 +60,25 @@ nine_blocks = [] ▹ Host (write 2 0x9000 0 9) ▹ Device (ready 2 0 0x8000)
 nine_blocks_sound : Sound sizes blank_unit nine_blocks
 unfolding nine_blocks reply_of effects_of wire_fault_of upiu_at upiu_out kind_of cdb_of
 nine_blocks_sound = record {
-  so_far = (((((((tt, tt),
-      ((Ask 0x8000, (refl, omega arith, refl), refl), tt)), tt), tt),
-      ((Ask 0x1000, (refl, omega arith, refl), refl), tt)), tt),
-      ((Good [], (refl, refl, omega arith), refl), tt));
+  so_far = (
+    (
+      (
+        (
+          (
+            (
+              (tt, tt),
+              ((Ask 0x8000, (refl, omega arith, refl), refl), tt),
+            ),
+            tt,
+          ),
+          tt,
+        ),
+        ((Ask 0x1000, (refl, omega arith, refl), refl), tt),
+      ),
+      tt,
+    ),
+    ((Good [], (refl, refl, omega arith), refl), tt),
+  );
   nothing_owed = refl;
 }
 
@@ -72,17 +101,60 @@ cut_shown = refl
 cut_sound : Sound sizes blank_unit (shows (shows cut 4 (block_of 0x22) (block_of 0x22) (block_of 0x11) ▹ Reset) 5 (block_of 0x22) (block_of 0x22) (block_of 0x11))
 unfolding reply_of effects_of wire_fault_of upiu_at upiu_out kind_of cdb_of
 cut_sound = record {
-  so_far = (((((((((((((((((((tt, tt),
-      ((Ask 0x3000, (refl, omega arith, refl), refl), tt)), tt),
-      ((Good [], (refl, refl, omega arith), refl), tt)), tt),
-      ((Ask 0x3000, (refl, omega arith, refl), refl), tt)), tt), tt), tt),
-      ((Data (block_of 0x22), (omega arith, refl), refl), (1, omega arith, refl))),
-      ((Data (block_of 0x22), (omega arith, refl), refl), (1, omega arith, refl))),
-      ((Data (block_of 0x11), (omega arith, refl), refl), (0, omega arith, refl))),
-      ((Good [], (refl, refl, omega arith), refl), tt)), tt), tt),
-      ((Data (block_of 0x22), (omega arith, refl), refl), (0, omega arith, refl))),
-      ((Data (block_of 0x22), (omega arith, refl), refl), (0, omega arith, refl))),
-      ((Data (block_of 0x11), (omega arith, refl), refl), (0, omega arith, refl))),
-      ((Good [], (refl, refl, omega arith), refl), tt));
+  so_far = (
+    (
+      (
+        (
+          (
+            (
+              (
+                (
+                  (
+                    (
+                      (
+                        (
+                          (
+                            (
+                              (
+                                (
+                                  (
+                                    (
+                                      (tt, tt),
+                                      ((Ask 0x3000, (refl, omega arith, refl), refl), tt),
+                                    ),
+                                    tt,
+                                  ),
+                                  ((Good [], (refl, refl, omega arith), refl), tt),
+                                ),
+                                tt,
+                              ),
+                              ((Ask 0x3000, (refl, omega arith, refl), refl), tt),
+                            ),
+                            tt,
+                          ),
+                          tt,
+                        ),
+                        tt,
+                      ),
+                      ((Data (block_of 0x22), (omega arith, refl), refl), (1, omega arith, refl)),
+                    ),
+                    ((Data (block_of 0x22), (omega arith, refl), refl), (1, omega arith, refl)),
+                  ),
+                  ((Data (block_of 0x11), (omega arith, refl), refl), (0, omega arith, refl)),
+                ),
+                ((Good [], (refl, refl, omega arith), refl), tt),
+              ),
+              tt,
+            ),
+            tt,
+          ),
+          ((Data (block_of 0x22), (omega arith, refl), refl), (0, omega arith, refl)),
+        ),
+        ((Data (block_of 0x22), (omega arith, refl), refl), (0, omega arith, refl)),
+      ),
+      ((Data (block_of 0x11), (omega arith, refl), refl), (0, omega arith, refl)),
+    ),
+    ((Good [], (refl, refl, omega arith), refl), tt),
+  );
   nothing_owed = refl;
 }

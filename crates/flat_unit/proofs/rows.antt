@@ -6,3 +6,4 @@ pub mod Requests
 pub mod Tracing
 pub mod Entries
 pub mod Hinting
+pub mod Causing

@@ -1,5 +1,5 @@
 -- What is answered at once: bytes that are no UPIU, commands that are refused, and data that weren't asked for.
-use Rattle.std.proofs.Common.{◌≡◌, ℕ, zero, suc, [], ◌++◌, refl, arith, replicate}
+use Rattle.std.proofs.Common.{◌∷◌, ◌≡◌, ℕ, zero, suc, [], ◌++◌, refl, arith, replicate}
 use Rattle.flat_unit.specs.declared.event.Event.TheVariants.{Host, Device}
 use Rattle.hpb_cdb.specs.Read.{cdb_of}
 use Rattle.upiu_wire.specs.Kind.{kind_of}
@@ -114,3 +114,42 @@ wrong_offset_sound = record {
   );
   nothing_owed = refl;
 }
+
+-- what had come before is no residual
+abbrev second_wrong : History
+second_wrong = [] ▹ Host (write 2 0x2000 0 2) ▹ Device (ready 2 0 0x2000) ▹ Host (data_out 2 0 (block_of 0xA5))
+    ▹ Host (data_out 2 0 (block_of 0xA5)) ▹ Device (check_with 0x20 2 0x1000 0x0B 0x4B)
+
+second_wrong_sound : Sound sizes blank_unit second_wrong
+unfolding reply_of effects_of wire_fault_of upiu_at upiu_out kind_of cdb_of
+second_wrong_sound = record {
+  so_far = (((((tt, tt), ((Ask 0x2000, (refl, omega arith, refl), refl), tt)), tt), tt), refl);
+  nothing_owed = refl;
+}
+
+-- data for another tag, and data of no bytes
+other_tag : Sound sizes blank_unit ([] ▹ Host (write 2 0x1000 0 1) ▹ Device (ready 2 0 0x1000) ▹ Host (data_out 3 0 (block_of 0xA5)) ▹ Device (reject 0 3 9))
+unfolding reply_of effects_of wire_fault_of upiu_at upiu_out kind_of cdb_of
+other_tag = record { so_far = ((((tt, tt), ((Ask 0x1000, (refl, omega arith, refl), refl), tt)), tt), refl); nothing_owed = refl }
+
+no_bytes : Sound sizes blank_unit ([] ▹ Host (write 2 0x1000 0 1) ▹ Device (ready 2 0 0x1000) ▹ Host (data_out 2 0 []) ▹ Device (check_with 0x20 2 0x1000 0x0B 0x4B))
+unfolding reply_of effects_of wire_fault_of upiu_at upiu_out kind_of cdb_of
+no_bytes = record { so_far = ((((tt, tt), ((Ask 0x1000, (refl, omega arith, refl), refl), tt)), tt), refl); nothing_owed = refl }
+
+-- an expected length below what is needed, another logical unit, an opcode that is none
+short_length : Sound sizes blank_unit ([] ▹ Host (read 4 0xFFF 0 1) ▹ Device (check_with 0x20 4 0xFFF 0x05 0x24))
+unfolding reply_of effects_of wire_fault_of upiu_at upiu_out kind_of cdb_of
+short_length = record { so_far = ((tt, tt), refl); nothing_owed = refl }
+
+other_unit : Sound sizes blank_unit ([] ▹ Host (four 0x01 0 1 4 ++ replicate 28 0) ▹ Device (four 0x21 0 1 4 ++ four 0 0 0x01 0x02 ++ four 0 0 0 0x14 ++ replicate 20 0 ++ four 0 0x12 0x70 0 ++ four 0x05 0 0 0 ++ four 0 0x0A 0 0 ++ four 0 0 0x25 0 ++ z))
+unfolding reply_of effects_of wire_fault_of upiu_at upiu_out kind_of cdb_of
+other_unit = record { so_far = ((tt, tt), refl); nothing_owed = refl }
+
+other_opcode : Sound sizes blank_unit ([] ▹ Host (four 0x01 0 0 4 ++ z ++ z ++ z ++ four 0x29 0 0 0 ++ replicate 12 0) ▹ Device (check_with 0 4 0 0x05 0x20))
+unfolding reply_of effects_of wire_fault_of upiu_at upiu_out kind_of cdb_of
+other_opcode = record { so_far = ((tt, tt), refl); nothing_owed = refl }
+
+-- a device that doesn't serve an opcode knows none of its commands
+not_served : Sound (record sizes { opcodes = 0x00 ∷ [] }) blank_unit ([] ▹ Host (read 4 0x1000 0 1) ▹ Device (check_with 0x20 4 0x1000 0x05 0x20))
+unfolding reply_of effects_of wire_fault_of upiu_at upiu_out kind_of cdb_of
+not_served = record { so_far = ((tt, tt), refl); nothing_owed = refl }

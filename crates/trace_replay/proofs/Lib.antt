@@ -1,4 +1,5 @@
 pub mod Gathered
 pub mod OneItem
 pub mod Standing
+pub mod Turns
 pub mod Written

@@ -1,5 +1,6 @@
 pub mod Form
 pub mod Moments
+pub mod Run
 pub mod Status
 pub mod Words
 pub mod Writes

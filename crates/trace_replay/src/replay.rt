@@ -5,6 +5,8 @@ ghost use Rattle.flat_unit.specs.Trace.{Upiu, Drain};
 ghost use Rattle.hpb_device.specs.Standing.{group_of};
 ghost use Rattle.trace_text.specs.Grammar.{line_said, room_taken};
 ghost use Rattle.trace_replay.specs.Moments.{Serves, TurnServes};
+ghost use Rattle.std.specs.Io.KnownBytes.{prepend_known};
+ghost use Rattle.trace_replay.specs.Run.{TurnIs};
 ghost use Rattle.trace_replay.specs.Writes.{KeepsText};
 ghost use Rattle.hpb_outside.specs.Faults.{HasCause, Rose};
 ghost use Rattle.trace_replay.specs.declared.output.TheConstants.{OUTPUT_BYTES, LINE_ROOM};
@@ -143,6 +145,7 @@ fn serve<K: Sink, F: Flash>(
 ) -> Turn
     requires { room_taken line ≤ 65568 }
     ensures turn { TurnServes (line_said buffers.old.room.items line) device.old device.new (K.written sink.old) (K.written sink.new) buffers.old.output buffers.new.output result }
+    ensures reader { buffers.new.reader ≡ buffers.old.reader }
     ensures later { K.faults sink.old ≤ K.faults sink.new }
     ensures unwritten { result ≡ Turn.Unwritten → Rose (K.faults sink.old) (K.faults sink.new) }
     ensures read { ¬ (result ≡ Turn.Unread) }
@@ -164,6 +167,21 @@ fn serve<K: Sink, F: Flash>(
     }
 }
 
+/// Writes what was gathered, where the next line asks the source for more.
+fn write_before_read<K: Sink>(
+    reader: &LineReader,
+    output: &mut Output,
+    sink: &mut K,
+) -> Result<(), Failed>
+    ensures text { KeepsText (K.written sink.old) (K.written sink.new) output.old output.new result }
+    ensures cause { HasCause (K.faults sink.old) (K.faults sink.new) result }
+{
+    if reader.holds_line() {
+        return Ok(());
+    }
+    output.flush(sink)
+}
+
 /// Reads one line and serves it. What was gathered is written before the source is asked for more.
 pub(crate) fn take_turn<S: Source, K: Sink, F: Flash>(
     device: &mut Device<F>,
@@ -171,15 +189,16 @@ pub(crate) fn take_turn<S: Source, K: Sink, F: Flash>(
     source: &mut S,
     sink: &mut K,
 ) -> Turn
+    ensures turn { TurnIs device.old device.new
+        (prepend_known buffers.old.reader (S.left source.old)) (prepend_known buffers.new.reader (S.left source.new))
+        (K.written sink.old) (K.written sink.new) buffers.old.output buffers.new.output result }
     ensures source_later { S.faults source.old ≤ S.faults source.new }
     ensures sink_later { K.faults sink.old ≤ K.faults sink.new }
     ensures unread { result ≡ Turn.Unread → Rose (S.faults source.old) (S.faults source.new) }
     ensures unwritten { result ≡ Turn.Unwritten → Rose (K.faults sink.old) (K.faults sink.new) }
 {
-    if !buffers.reader.holds_line() {
-        if buffers.output.flush(sink).is_err() {
-            return Turn::Unwritten;
-        }
+    if write_before_read(&buffers.reader, &mut buffers.output, sink).is_err() {
+        return Turn::Unwritten;
     }
     let parsed = match buffers.reader.next_line(source) {
         Ok(Some(line)) => parse_line(line, &mut buffers.room),

@@ -1,0 +1,104 @@
+-- What a run of a trace leaves.
+use Rattle.std.specs.Prelude.{◌≡◌, ◌⊎◌, ℕ, ◌+◌, ⊤, List, [], ◌∷◌, ◌++◌, map, length, Option, Some, None, codes, decimal}
+use Rattle.std.specs.Io.KnownBytes.{Appends}
+use Rattle.flat_unit.specs.Print.{print}
+use Rattle.flat_unit.specs.Replays.{Progress, begun, LineTo, Replays}
+use Rattle.flat_unit.specs.Sizes.{Sizes}
+use Rattle.flat_unit.specs.Trace.{Line}
+use Rattle.hpb_device.specs.Standing.{sizes_of}
+use Rattle.hpb_device.specs.State.{DeviceState}
+use Rattle.trace_text.specs.Grammar.{trace_line}
+use Rattle.trace_text.specs.Lines.{TakesLine, EndsAt, BeginsLong, WhereTold}
+use Rattle.trace_replay.specs.Moments.{Standing, Leads, Cuts, CutLineTo, IsServedLine}
+use Rattle.trace_replay.specs.Writes.{AppendsFront, HasWrittenUpTo}
+use Rattle.trace_replay.specs.declared.replay.Turn.{Turn}
+use Rattle.trace_replay.specs.declared.replay.Turn.TheVariants.{Served, Ended, Bad, Unread, Unwritten}
+use Rattle.trace_replay.specs.declared.status.Status.{Status}
+use Rattle.trace_replay.specs.declared.status.Status.TheVariants.{Done, BadLine, ReadFault, WriteFault, LongTrace}
+
+-- these lines were taken, one after another
+abbrev pub TakesLines : Option (List ℕ) → List (List ℕ) → Option (List ℕ) → Type 0
+TakesLines left [] now = now ≡ left
+TakesLines left (text ∷ texts) now = (mid : Option (List ℕ)) × WhereTold (TakesLine text) left mid × TakesLines mid texts now
+
+-- a text that is no line of a trace, or one that isn't served where the replay has come so far
+abbrev pub IsRefusedText : Sizes → Progress → List ℕ → Type 0
+IsRefusedText s p text = (trace_line text ≡ None) ⊎ ((line : Line) × (trace_line text ≡ Some line) × ¬ IsServedLine s p line)
+
+-- a text that is told begins with a line that is too long
+abbrev pub IsLong : Option (List ℕ) → Type 0
+IsLong None = ⊤
+IsLong (Some text) = BeginsLong text
+
+-- a text that is told isn't at its end
+abbrev pub HasMore : Option (List ℕ) → Type 0
+HasMore None = ⊤
+HasMore (Some text) = ¬ (text ≡ [])
+
+-- the next line is too long, or refused
+abbrev pub IsBadNext : Sizes → Option (List ℕ) → Progress → Type 0
+IsBadNext s left p = IsLong left ⊎ ((text : List ℕ) × (mid : Option (List ℕ)) × WhereTold (TakesLine text) left mid × IsRefusedText s p text)
+
+-- the sink failed before the next line was taken, or after one of the calls that serve it
+abbrev pub IsCutNext : Sizes → Option (List ℕ) → Progress → Progress → Type 0
+IsCutNext s left p now = (now ≡ p)
+    ⊎ ((text : List ℕ) × (mid : Option (List ℕ)) × (line : Line) × WhereTold (TakesLine text) left mid × (trace_line text ≡ Some line) × CutLineTo s line p now)
+
+-- what one line comes to, where the replay has come so far
+abbrev pub TurnAt : (start : DeviceState) (before : Option (List ℕ)) (p : Progress) (old new : DeviceState) (left left_now written : Option (List ℕ)) (gathered : List ℕ) → Turn → Type 0
+TurnAt start before p old new left left_now written gathered Served =
+    (text : List ℕ) × (line : Line) × WhereTold (TakesLine text) left left_now × (trace_line text ≡ Some line) × IsServedLine (sizes_of start) p line × Leads (LineTo (sizes_of start) line p) start new before written gathered
+TurnAt start before p old new left left_now written gathered Ended =
+    WhereTold EndsAt left left_now × (new.store ≡ old.store) × HasWrittenUpTo before written (print p.events) gathered
+TurnAt start before p old new left left_now written gathered Unread =
+    (new.store ≡ old.store) × HasWrittenUpTo before written (print p.events) gathered
+TurnAt start before p old new left left_now written gathered Bad =
+    IsBadNext (sizes_of start) left p × (new.store ≡ old.store) × HasWrittenUpTo before written (print p.events) gathered
+TurnAt start before p old new left left_now written gathered Unwritten = Cuts (IsCutNext (sizes_of start) left p) start new before written
+
+abbrev pub TurnIs : (old new : DeviceState) (left left_now written written_now : Option (List ℕ)) (gathered gathered_now : List ℕ) → Turn → Type 0
+TurnIs old new left left_now written written_now gathered gathered_now turn =
+    (start : DeviceState) (before : Option (List ℕ)) (p : Progress) → Standing start old p → HasWrittenUpTo before written (print p.events) gathered
+    → TurnAt start before p old new left left_now written_now gathered_now turn
+
+-- each of these lines is served, and leads on
+abbrev pub ServesLines : Sizes → List Line → Progress → Progress → Type 0
+ServesLines s [] p now = now ≡ p
+ServesLines s (line ∷ lines) p now = (mid : Progress) × IsServedLine s p line × LineTo s line p mid × ServesLines s lines mid now
+
+-- so many lines were taken and served, and the events that they led to have these facts
+pub record Ran (s : Sizes) (left now : Option (List ℕ)) (count : ℕ) (facts : Progress → Type 0) : Type 0 where
+  pub texts : List (List ℕ)
+  pub lines : List Line
+  pub moment : Progress
+  pub taken : TakesLines left texts now
+  pub parsed : map trace_line texts ≡ map (λ (line : Line). Some line) lines
+  pub counted : length texts ≡ count
+  pub replays : Replays s lines begun moment
+  pub serves : ServesLines s lines begun moment
+  pub shows : facts moment
+
+-- the last words of a run
+abbrev pub bad_line_text : ℕ → List ℕ
+bad_line_text number = codes "E line " ++ decimal number ++ codes "\n"
+
+abbrev pub long_text : List ℕ
+long_text = codes "E long\n"
+
+abbrev pub AreLastWords : List ℕ → Type 0
+AreLastWords words = (words ≡ []) ⊎ (words ≡ long_text) ⊎ ((number : ℕ) × (words ≡ bad_line_text number))
+
+-- What a replay leaves at each status. `good` is what is known of the events and of the device.
+abbrev pub RunIs : Sizes → (good : Progress → Type 0) → (left left_now written written_now : Option (List ℕ)) → (source_rose sink_rose : Type 0) → ℕ → Status → Type 0
+RunIs s good left left_now written written_now source_rose sink_rose limit Done =
+    (mid : Option (List ℕ)) × (n : ℕ) × Ran s left mid n (λ p. good p × Appends written written_now (print p.events)) × WhereTold EndsAt mid left_now
+RunIs s good left left_now written written_now source_rose sink_rose limit (BadLine number) =
+    (mid : Option (List ℕ)) × (n : ℕ) × Ran s left mid n (λ p. good p × IsBadNext s mid p × Appends written written_now (print p.events ++ bad_line_text number)) × (number ≡ n + 1)
+RunIs s good left left_now written written_now source_rose sink_rose limit ReadFault =
+    (mid : Option (List ℕ)) × (n : ℕ) × Ran s left mid n (λ p. good p × Appends written written_now (print p.events)) × source_rose
+RunIs s good left left_now written written_now source_rose sink_rose limit LongTrace =
+    (mid : Option (List ℕ)) × Ran s left mid limit (λ p. good p × Appends written written_now (print p.events ++ long_text)) × HasMore mid
+RunIs s good left left_now written written_now source_rose sink_rose limit WriteFault =
+    (mid : Option (List ℕ)) × (n : ℕ) × (last : Progress) × (words : List ℕ) × Ran s left mid n (λ p. IsCutNext s mid p last) × good last
+    × AreLastWords words × AppendsFront written written_now (print last.events ++ words) × sink_rose
+RunIs s good left left_now written written_now source_rose sink_rose limit _ = ⊥

@@ -1,5 +1,6 @@
 pub mod Gathered
 pub mod OneItem
+pub mod Runs
 pub mod Standing
 pub mod Turns
 pub mod Written

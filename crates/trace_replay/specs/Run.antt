@@ -102,3 +102,24 @@ RunIs s good left left_now written written_now source_rose sink_rose limit Write
     (mid : Option (List ℕ)) × (n : ℕ) × (last : Progress) × (words : List ℕ) × Ran s left mid n (λ p. IsCutNext s mid p last) × good last
     × AreLastWords words × AppendsFront written written_now (print last.events ++ words) × sink_rose
 RunIs s good left left_now written written_now source_rose sink_rose limit _ = ⊥
+
+-- a device with this store was left where it stood at this moment
+abbrev pub IsLeft : (start now : DeviceState) → Progress → Type 0
+IsLeft start now p = (device : DeviceState) × Standing start device p × (now.store ≡ device.store)
+
+-- a text and last words were written, and the status is this; or a front of them, where the sink failed
+abbrev pub Finishes : (old new : Option (List ℕ)) (gathered words : List ℕ) (sink_rose : Type 0) (status result : Status) → Type 0
+Finishes old new gathered words sink_rose status result = (before : Option (List ℕ)) (text : List ℕ) → HasWrittenUpTo before old text gathered
+    → ((result ≡ status) × Appends before new (text ++ words)) ⊎ ((result ≡ WriteFault) × AppendsFront before new (text ++ words) × sink_rose)
+
+-- how a text ends after the last line that a trace may have
+abbrev pub LastIs : (before new : Option (List ℕ)) (text : List ℕ) (left left_now : Option (List ℕ)) (source_rose sink_rose : Type 0) → Status → Type 0
+LastIs before new text left left_now source_rose sink_rose Done = Appends before new text × WhereTold EndsAt left left_now
+LastIs before new text left left_now source_rose sink_rose LongTrace = Appends before new (text ++ long_text) × HasMore left
+LastIs before new text left left_now source_rose sink_rose ReadFault = Appends before new text × source_rose
+LastIs before new text left left_now source_rose sink_rose WriteFault = (words : List ℕ) × AreLastWords words × AppendsFront before new (text ++ words) × sink_rose
+LastIs before new text left left_now source_rose sink_rose _ = ⊥
+
+abbrev pub EndsLong : (old new : Option (List ℕ)) (gathered : List ℕ) (left left_now : Option (List ℕ)) (source_rose sink_rose : Type 0) → Status → Type 0
+EndsLong old new gathered left left_now source_rose sink_rose result = (before : Option (List ℕ)) (text : List ℕ) → HasWrittenUpTo before old text gathered
+    → LastIs before new text left left_now source_rose sink_rose result

@@ -1,6 +1,9 @@
-ghost use Rattle.std.specs.Prelude.{◌≡◌, ◌≤◌, ◌↔◌, ◌⊎◌, map, string_bytes};
+ghost use Rattle.std.specs.Prelude.{◌≡◌, ◌≤◌, ◌↔◌, ◌⊎◌, [], None, map, string_bytes};
 ghost use Rattle.hpb_outside.specs.Faults.{HasCause, Rose};
 ghost use Rattle.flash_pages.specs.Chip.{erased_chip};
+ghost use Rattle.std.specs.Io.KnownBytes.{prepend_known};
+ghost use Rattle.hpb_device.specs.Standing.{sizes_of};
+ghost use Rattle.trace_replay.specs.Run.{EndsLong, Finishes, IsLeft, RunIs, bad_line_text};
 ghost use Rattle.trace_replay.specs.Words.{IsReplay};
 
 use crate::output::{Output, write_all};
@@ -98,8 +101,13 @@ fn replay<S: Source, K: Sink, F: Flash>(
     source: &mut S,
     sink: &mut K,
 ) -> Status
-    ensures read_fault { result ≡ Status.ReadFault → Rose (S.faults source.old) (S.faults source.new) }
-    ensures write_fault { result ≡ Status.WriteFault → Rose (K.faults sink.old) (K.faults sink.new) }
+    requires begun { device.old.head ≡ None }
+    requires some_page { 1 ≤ device.old.store.geometry.pages }
+    requires fresh { buffers.old.output ≡ [] }
+    ensures run { RunIs (sizes_of device.old) (IsLeft device.old device.new)
+        (prepend_known buffers.old.reader (S.left source.old)) (prepend_known buffers.new.reader (S.left source.new))
+        (K.written sink.old) (K.written sink.new)
+        (Rose (S.faults source.old) (S.faults source.new)) (Rose (K.faults sink.old) (K.faults sink.new)) LINES result }
     ensures source_later { S.faults source.old ≤ S.faults source.new }
     ensures sink_later { K.faults sink.old ≤ K.faults sink.new }
 {
@@ -117,7 +125,7 @@ fn replay<S: Source, K: Sink, F: Flash>(
 
 /// Writes what was gathered, and ends with this status.
 fn finish<K: Sink>(output: &mut Output, sink: &mut K, status: Status) -> Status
-    ensures status { (result ≡ status) ⊎ ((result ≡ Status.WriteFault) × Rose (K.faults sink.old) (K.faults sink.new)) }
+    ensures ends { Finishes (K.written sink.old) (K.written sink.new) output.old [] (Rose (K.faults sink.old) (K.faults sink.new)) status result }
     ensures later { K.faults sink.old ≤ K.faults sink.new }
 {
     match output.flush(sink) {
@@ -128,8 +136,8 @@ fn finish<K: Sink>(output: &mut Output, sink: &mut K, status: Status) -> Status
 
 /// Ends at a line that the trace can't have.
 fn refuse_line<K: Sink>(output: &mut Output, sink: &mut K, number: u32) -> Status
-    ensures status { (result ≡ Status.BadLine number)
-        ⊎ ((result ≡ Status.WriteFault) × Rose (K.faults sink.old) (K.faults sink.new)) }
+    ensures ends { Finishes (K.written sink.old) (K.written sink.new) output.old (bad_line_text number) (Rose (K.faults sink.old) (K.faults sink.new))
+        (Status.BadLine number) result }
     ensures later { K.faults sink.old ≤ K.faults sink.new }
 {
     if make_room(output, sink).is_err() {
@@ -144,8 +152,9 @@ fn refuse_line<K: Sink>(output: &mut Output, sink: &mut K, number: u32) -> Statu
 
 /// Ends after the last line that a trace may have.
 fn end_long<S: Source, K: Sink>(buffers: &mut Buffers, source: &mut S, sink: &mut K) -> Status
-    ensures read_fault { result ≡ Status.ReadFault → Rose (S.faults source.old) (S.faults source.new) }
-    ensures write_fault { result ≡ Status.WriteFault → Rose (K.faults sink.old) (K.faults sink.new) }
+    ensures ends { EndsLong (K.written sink.old) (K.written sink.new) buffers.old.output
+        (prepend_known buffers.old.reader (S.left source.old)) (prepend_known buffers.new.reader (S.left source.new))
+        (Rose (S.faults source.old) (S.faults source.new)) (Rose (K.faults sink.old) (K.faults sink.new)) result }
     ensures source_later { S.faults source.old ≤ S.faults source.new }
     ensures sink_later { K.faults sink.old ≤ K.faults sink.new }
 {

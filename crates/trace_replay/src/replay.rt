@@ -1,4 +1,4 @@
-ghost use Rattle.std.specs.Prelude.{◌≡◌, ◌≤◌, ◌+◌, ◌++◌, length, flat_map, None, OnOk};
+ghost use Rattle.std.specs.Prelude.{◌≡◌, ◌≤◌, ◌+◌, ◌++◌, length, flat_map, [], None, IfOk, OnOk};
 ghost use Rattle.flat_unit.specs.Print.{line_of};
 ghost use Rattle.flat_unit.specs.Replays.{events_of};
 ghost use Rattle.flat_unit.specs.Trace.{Upiu, Drain};
@@ -35,7 +35,11 @@ pub(crate) struct Buffers {
 }
 
 impl Buffers {
-    pub(crate) fn new(alloc: Global) -> Result<Buffers, NoMemory> {
+    /// Empty buffers.
+    pub(crate) fn new(alloc: Global) -> Result<Buffers, NoMemory>
+        ensures reader { IfOk result (λ buffers. buffers.reader ≡ []) }
+        ensures output { IfOk result (λ buffers. buffers.output ≡ []) }
+    {
         let reader = LineReader::new(alloc)?;
         let room = vec![in alloc; 0; ROOM_BYTES]?;
         let output = Output::new(alloc)?;

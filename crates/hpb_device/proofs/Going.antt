@@ -10,7 +10,16 @@ use Rattle.flash_pages.specs.declared.chip.ChipOp.{ChipOp}
 use Rattle.flash_store.specs.Store.{StoreState}
 use Rattle.hpb_cdb.specs.declared.cdb.Cdb.{Cdb}
 use Rattle.hpb_cdb.specs.declared.cdb.Cdb.TheVariants.{TestReady, Read, Write, Capacity, Sync, HpbRead, ReadBuffer, Prefetch, InactOne, InactAll}
-use Rattle.flat_unit.specs.Causes.{FailuresWithin}
+use Rattle.upiu_wire.specs.Upiu.{upiu_at, upiu_out}
+use Rattle.upiu_wire.specs.Kind.{kind_of}
+use Rattle.upiu_wire.specs.Written.{data_upiu, transfer_upiu}
+use Rattle.upiu_wire.specs.declared.kind.Kind.TheVariants.{DataIn, ReadyToTransfer}
+use Rattle.hpb_device.specs.Reply.{reply_upiu, cause_sense}
+use Rattle.hpb_device.specs.declared.reply.Reply.{Reply}
+use Rattle.hpb_device.specs.declared.reply.Reply.TheVariants.{Good, Check}
+use Rattle.hpb_device.specs.declared.reply.Cause.{Cause}
+use Rattle.hpb_device.specs.declared.reply.Cause.TheVariants.{ReadFailed, WriteFailed, UnknownOpcode, OutOfRange, InvalidField, NoSuchUnit, NoRoom, DataNotAsked}
+use Rattle.flat_unit.specs.Causes.{FailuresWithin, sense_code}
 use Rattle.flat_unit.specs.History.{followed_by}
 use Rattle.flat_unit.specs.Queue.{at_rest}
 use Rattle.flat_unit.specs.Replays.{events_of, has_asked, enough, bound}
@@ -23,7 +32,7 @@ use Rattle.hpb_device.specs.declared.advance.Progress.{Progress}
 use Rattle.hpb_device.specs.declared.advance.Progress.TheVariants.{Shown, Asked, Programmed, Ended, Failed}
 use Rattle.hpb_device.specs.declared.device.Stepped.{Stepped}
 use Rattle.hpb_device.specs.declared.task.Task.{Task}
-use Rattle.hpb_device.specs.Advance.{Advances, Programs}
+use Rattle.hpb_device.specs.Advance.{Advances, Programs, failure_of}
 use Rattle.hpb_device.specs.Calls.{GoesOn, Leaves, stepped}
 use Rattle.hpb_device.specs.Keeps.{KeepsTasks, IsTaskOf}
 use Rattle.hpb_device.specs.Standing.{DeviceStands, first_of, group_of, kept_of, programmed_of, sizes_of}
@@ -143,3 +152,68 @@ rest_by (Some task) other = let not_over : (task.come < task.asked → ⊥) → 
 
 pub at_rest_of : (device : DeviceState) → ((AtRest device → ⊥) → ⊥) → AtRest device
 at_rest_of device other = rest_by device.head other
+
+-- no step tells that the chip isn't ready
+pub other_code : (code : Option ℕ) → code ≡ None → ¬ (code ≡ Some 0x44)
+other_code code none is = absurd (no_code (sym none ∙ is))
+  where
+    no_code : {n : ℕ} → None ≡ Some n → ⊥
+    no_code same = cc
+
+pub data_tells_none : (lun tag offset : ℕ) (bytes : List ℕ) → sense_code (upiu_out (data_upiu DataIn lun tag offset bytes)) ≡ None
+unfolding upiu_out upiu_at kind_of
+data_tells_none lun tag offset bytes = refl
+
+pub transfer_tells_none : (lun tag offset count : ℕ) → sense_code (upiu_out (transfer_upiu ReadyToTransfer lun tag offset count)) ≡ None
+unfolding upiu_out upiu_at kind_of
+transfer_tells_none lun tag offset count = refl
+
+pub good_tells_none : (lun tag residual : ℕ) → sense_code (upiu_out (reply_upiu (Good lun tag residual))) ≡ None
+unfolding upiu_out upiu_at kind_of
+good_tells_none lun tag residual = refl
+
+pub check_tells : (lun tag residual : ℕ) (cause : Cause) → sense_code (upiu_out (reply_upiu (Check lun tag residual cause))) ≡ Some (cause_sense cause).asc
+unfolding upiu_out upiu_at kind_of
+check_tells lun tag residual ReadFailed = refl
+check_tells lun tag residual WriteFailed = refl
+check_tells lun tag residual UnknownOpcode = refl
+check_tells lun tag residual OutOfRange = refl
+check_tells lun tag residual InvalidField = refl
+check_tells lun tag residual NoSuchUnit = refl
+check_tells lun tag residual NoRoom = refl
+check_tells lun tag residual DataNotAsked = refl
+
+another_code : (code : Option ℕ) (n : ℕ) → code ≡ Some n → (n ≡ 0x44 → ⊥) → ¬ (code ≡ Some 0x44)
+another_code code n is other same = other (some_same (sym is ∙ same))
+  where
+    some_same : {a b : ℕ} → Some a ≡ Some b → a ≡ b
+    some_same e = cc
+
+failed_code : (command : Cdb) → (cause_sense (failure_of command)).asc ≡ 0x44 → ⊥
+failed_code (Read lba n) same = absurd (omega (arith, same))
+failed_code TestReady same = absurd (omega (arith, same))
+failed_code (Write lba n) same = absurd (omega (arith, same))
+failed_code Capacity same = absurd (omega (arith, same))
+failed_code (Sync lba n) same = absurd (omega (arith, same))
+failed_code (HpbRead lba entry n id) same = absurd (omega (arith, same))
+failed_code (ReadBuffer region sub len) same = absurd (omega (arith, same))
+failed_code (Prefetch lba id len) same = absurd (omega (arith, same))
+failed_code (InactOne region) same = absurd (omega (arith, same))
+failed_code InactAll same = absurd (omega (arith, same))
+
+-- the code of the UPIU of a step, if it has one, is of a failed call or of a lack of pages
+tells_by : (old new : DeviceState) (task : Task) (progress : Progress) (head : Option Task) (result : Stepped) (out : List ℕ) → Advances old.store new.store old.held new.held task progress out → Leaves progress head result out
+    → result.sent ≡ true → ¬ (sense_code out ≡ Some 0x44)
+tells_by old new task (Shown rest) head result out advances leaves sends = other_code (sense_code out) (ap sense_code advances.0.sent ∙ data_tells_none _ _ _ _)
+tells_by old new task (Asked rest) head result out advances leaves sends = other_code (sense_code out) (ap sense_code advances.1.sent ∙ transfer_tells_none _ _ _ _)
+tells_by old new task (Programmed rest) head result out advances leaves sends = absurd (false≢true (sym (ap (λ (r : Stepped). r.sent) leaves.1) ∙ sends))
+tells_by old new task (Ended reply) head result out advances leaves sends = elim advances.0 [
+  | inl good ↦ other_code (sense_code out) (ap sense_code (leaves.2 ∙ ap (λ (r : Reply). upiu_out (reply_upiu r)) good.1) ∙ good_tells_none _ _ _)
+  | inr full ↦ another_code (sense_code out) 0x27 (ap sense_code (leaves.2 ∙ ap (λ (r : Reply). upiu_out (reply_upiu r)) full.1) ∙ check_tells _ _ _ NoRoom) (λ same. absurd (omega (arith, same)))
+]
+tells_by old new task (Failed op reply) head result out advances leaves sends =
+    let tells = ap sense_code (leaves.2 ∙ ap (λ (r : Reply). upiu_out (reply_upiu r)) advances.0.answer) ∙ check_tells _ _ _ (failure_of task.command) in
+    another_code (sense_code out) (cause_sense (failure_of task.command)).asc tells (failed_code task.command)
+
+pub going_tells : (old new : DeviceState) (result : Stepped) (out : List ℕ) → GoesOn old new result out → result.sent ≡ true → ¬ (sense_code out ≡ Some 0x44)
+going_tells old new result out goes sends = tells_by old new goes.task goes.progress new.head result out goes.advances goes.leaves sends

@@ -1,10 +1,10 @@
 -- Each call of the device leads from where it stands to where it stands then.
 use Rattle.std.proofs.Common.{◌≡◌, ℕ, suc, ◌+◌, ◌-◌, ◌<◌, ◌≤◌, Bool, true, false, List, [], ◌∷◌, ◌++◌, Option, Some, None, refl, sym, ◌∙◌, ap, subst, arith, inl, inr}
-use Rattle.std.specs.Prelude.{flat_map, IsTrue}
+use Rattle.std.specs.Prelude.{flat_map, IsTrue, if◌then◌else◌}
 use Rattle.std.specs.Bool.{OnFalse}
 use Rattle.flat_unit.specs.declared.event.Event.{Event}
 use Rattle.flat_unit.specs.declared.event.Event.TheVariants.{Host}
-use Rattle.flat_unit.specs.Causes.{failures, FailuresWithin}
+use Rattle.flat_unit.specs.Causes.{failures, FailuresWithin, sense_code}
 use Rattle.flat_unit.specs.History.{History, ◌▹◌, followed_by}
 use Rattle.flat_unit.specs.Print.{print, line_of}
 use Rattle.flat_unit.specs.Queue.{at_rest, on_after, tasks_after}
@@ -13,6 +13,10 @@ use Rattle.flat_unit.specs.Sizes.{Sizes}
 use Rattle.flat_unit.specs.Sound.{answers_to}
 use Rattle.flat_unit.specs.Stands.{First}
 use Rattle.flat_unit.specs.Task.{Task}
+use Rattle.flat_unit.specs.Writes.{moves}
+use Rattle.flash_pages.specs.declared.chip.ChipOp.{ChipOp}
+use Rattle.flash_pages.specs.Place.{Place}
+use Rattle.trace_replay.specs.Transcript.{NeverDead}
 use Rattle.flat_unit.specs.Trace.{Upiu, Drain, Blank}
 use Rattle.flat_unit.proofs.History.{print-▹, print-followed_by, failures-followed_by, due_at_once}
 use Rattle.hpb_device.specs.declared.device.Sent.{Sent}
@@ -22,7 +26,7 @@ use Rattle.hpb_device.specs.Calls.{GoesOn}
 use Rattle.hpb_device.specs.Keeps.{KeepsTasks}
 use Rattle.hpb_device.specs.Standing.{DeviceStands, answer_events, first_of, group_of, sizes_of}
 use Rattle.hpb_device.specs.State.{DeviceState, AtRest, steps_left}
-use Rattle.hpb_device.proofs.Going.{going_fails, going_is_silent, going_moves_none, going_sizes, going_tasks, resting_tasks, few_left}
+use Rattle.hpb_device.proofs.Going.{going_fails, going_is_silent, going_moves_none, going_sizes, going_tasks, going_tells, resting_tasks, few_left}
 use Rattle.trace_replay.specs.Form.{is_one_block}
 use Rattle.trace_replay.specs.Moments.{Standing, Leads, Cuts, CutLineTo, IsServedLine, Refuses}
 use Rattle.trace_replay.specs.Writes.{AppendsFront, HasWrittenUpTo}
@@ -82,12 +86,42 @@ step_leads start old new m r out at step =
     (rw (going_moves_none old new r out step.goes) refl)
     (λ none. ap has_asked tracked ∙ going_is_silent old new r out at.stands.tasks step.goes at.stands.keeps (not_sent r out r.sent refl none))
 
+-- the events of one step move no block, and tell no unit dead
+quiet_parts : (e : History) (failed : Option ChipOp) (moved : Option Place) (sent : Option (List ℕ)) → moved ≡ None → ((bytes : List ℕ) → sent ≡ Some bytes → ¬ (sense_code bytes ≡ Some 0x44)) → NeverDead e
+    → (moves (followed_by e (events_of (record { failed = failed; moved = moved; sent = sent }))) ≡ moves e) × NeverDead (followed_by e (events_of (record { failed = failed; moved = moved; sent = sent })))
+quiet_parts e None None None still other alive = (refl, alive)
+quiet_parts e None None (Some bytes) still other alive = (refl, (alive, other bytes refl))
+quiet_parts e (Some op) None None still other alive = (refl, alive)
+quiet_parts e (Some op) None (Some bytes) still other alive = (refl, (alive, other bytes refl))
+quiet_parts e failed (Some p) sent still other alive = absurd (no_place still)
+  where
+    no_place : {p : Place} → Some p ≡ None → ⊥
+    no_place is = cc
+
+code_of : (b : Bool) (out bytes : List ℕ) → (b ≡ true → ¬ (sense_code out ≡ Some 0x44)) → (if b then Some out else None) ≡ Some bytes → ¬ (sense_code bytes ≡ Some 0x44)
+code_of true out bytes other is = subst (λ (l : List ℕ). ¬ (sense_code l ≡ Some 0x44)) (same is) (other refl)
+  where
+    same : {a b : List ℕ} → Some a ≡ Some b → a ≡ b
+    same e = cc
+code_of false out bytes other is = absurd (no_bytes is)
+  where
+    no_bytes : {a : List ℕ} → None ≡ Some a → ⊥
+    no_bytes e = cc
+
+events_quiet : (start old new : DeviceState) (m : Progress) (r : Stepped) (out : List ℕ) → Standing start old m → Stepping old new r out
+    → (moves (followed_by m.events (events_of (group_of r out))) ≡ moves m.events) × NeverDead (followed_by m.events (events_of (group_of r out)))
+events_quiet start old new m r out at step =
+    quiet_parts m.events r.failed (group_of r out).moved (group_of r out).sent (rw (going_moves_none old new r out step.goes) refl)
+    (λ bytes is. code_of r.sent out bytes (going_tells old new r out step.goes) is) at.alive
+
 step_standing : (start old new : DeviceState) (m : Progress) (r : Stepped) (out : List ℕ) → Standing start old m → Stepping old new r out → Standing start new (after_step start m r out)
 step_standing start old new m r out at step = record {
   some_page = at.some_page;
   stands = step.stands (first_of start) m.events at.stands;
   sizes = going_sizes old new r out step.goes step.shape ∙ at.sizes;
   faults = omega (arith, at.faults, going_fails old new r out step.goes, failures-followed_by m.events (events_of (group_of r out)));
+  unmoved = (events_quiet start old new m r out at step).0 ∙ at.unmoved;
+  alive = (events_quiet start old new m r out at step).1;
 }
 
 -- the steps that are left are at most those that the tasks need
@@ -112,7 +146,7 @@ draining_begins start now before w gathered p at printed = record {
   moment = without_runs p;
   steps = refl;
   few = omega (arith, few_steps start now p at);
-  standing = record { some_page = at.some_page; stands = at.stands; sizes = at.sizes; faults = at.faults };
+  standing = record { some_page = at.some_page; stands = at.stands; sizes = at.sizes; faults = at.faults; unmoved = at.unmoved; alive = at.alive };
   printed = printed;
 }
 
@@ -170,7 +204,7 @@ pub blank_leads : (start now : DeviceState) (before w : Option (List ℕ)) (gath
 blank_leads start now before w gathered p at printed = record {
   moment = with_run (sizes_of start) p;
   reached = refl;
-  standing = record { some_page = at.some_page; stands = at.stands; sizes = at.sizes; faults = at.faults };
+  standing = record { some_page = at.some_page; stands = at.stands; sizes = at.sizes; faults = at.faults; unmoved = at.unmoved; alive = at.alive };
   printed = printed;
 }
 
@@ -206,6 +240,8 @@ kept_leads start old new before w gathered gathered_now bytes out p at got print
         stands = rw events (got.stands (first_of start) p.events at.stands);
         sizes = same_sizes old new got.store got.shape ∙ at.sizes;
         faults = rw (events, got.store) at.faults;
+        unmoved = rw events at.unmoved;
+        alive = rw events at.alive;
       };
       printed = rw (events, is) (host_gathered before w p.events bytes gathered printed);
     }

@@ -2,5 +2,6 @@ pub mod Form
 pub mod Moments
 pub mod Run
 pub mod Status
+pub mod Transcript
 pub mod Words
 pub mod Writes

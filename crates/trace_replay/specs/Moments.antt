@@ -7,12 +7,14 @@ use Rattle.flat_unit.specs.Replays.{Progress, StepsTo, LineTo, enough, tasks_at,
 use Rattle.flat_unit.specs.Sizes.{Sizes}
 use Rattle.flat_unit.specs.Sound.{answers_to}
 use Rattle.flat_unit.specs.Queue.{on_after}
+use Rattle.flat_unit.specs.Writes.{moves}
 use Rattle.flat_unit.specs.Trace.{Line, Upiu, Drain, Blank}
 use Rattle.hpb_device.specs.Standing.{DeviceStands, first_of, sizes_of}
 use Rattle.hpb_device.specs.State.{DeviceState}
 use Rattle.trace_replay.specs.declared.replay.Turn.{Turn}
 use Rattle.trace_replay.specs.declared.replay.Turn.TheVariants.{Served, Bad, Unwritten}
 use Rattle.trace_replay.specs.Form.{is_one_block}
+use Rattle.trace_replay.specs.Transcript.{NeverDead}
 use Rattle.trace_replay.specs.Writes.{AppendsFront, HasWrittenUpTo}
 
 -- a device that began without events now stands at those of this moment
@@ -21,6 +23,8 @@ pub record Standing (start now : DeviceState) (p : Progress) : Type 0 where
   pub stands : DeviceStands now (first_of start) p.events
   pub sizes : sizes_of now ≡ sizes_of start
   pub faults : FailuresWithin start.store.faults now.store.faults p.events
+  pub unmoved : moves p.events ≡ 0
+  pub alive : NeverDead p.events
 
 -- a line that is served, where the replay has come so far: the UPIU has one of the forms, and nothing answers it at once
 abbrev pub IsServedLine : Sizes → Progress → Line → Type 0

@@ -1,9 +1,11 @@
-ghost use Rattle.std.specs.Prelude.{◌≡◌, ◌≤◌, ◌↔◌, ◌⊎◌, [], None, map, string_bytes};
+ghost use Rattle.std.specs.Prelude.{◌≡◌, ◌≤◌, ◌<◌, ◌-◌, ◌*◌, ◌^◌, ◌⊎◌, [], None, map, string_bytes};
 ghost use Rattle.hpb_outside.specs.Faults.{HasCause, Rose};
 ghost use Rattle.flash_pages.specs.Chip.{erased_chip};
-ghost use Rattle.std.specs.Io.KnownBytes.{prepend_known};
+ghost use Rattle.std.specs.Io.KnownBytes.{Appends, prepend_known};
 ghost use Rattle.hpb_device.specs.Standing.{sizes_of};
-ghost use Rattle.trace_replay.specs.Run.{EndsLong, Finishes, IsLeft, RunIs, bad_line_text};
+ghost use Rattle.trace_replay.specs.Run.{EndsLong, Finishes, IsLeft, ProgramIs, RunIs, bad_line_text};
+ghost use Rattle.trace_replay.specs.Transcript.{IsTranscript, whole_chip};
+ghost use Rattle.trace_replay.specs.Writes.{AppendsFront};
 ghost use Rattle.trace_replay.specs.Words.{IsReplay};
 
 use crate::output::{Output, write_all};
@@ -32,8 +34,13 @@ pub fn run<S: Source, K: Sink, F: Flash>(
     flash: F,
 ) -> Outcome<F>
     requires { F.pages flash ≡ erased_chip (F.geometry flash) }
-    ensures read_fault { result.status ≡ Status.ReadFault → Rose (S.faults source.old) (S.faults source.new) }
-    ensures write_fault { result.status ≡ Status.WriteFault → Rose (K.faults sink.old) (K.faults sink.new) }
+    // What was read and written, why the run ended, and what is known of the events and of the chip that is handed back.
+    ensures run { ProgramIs (map string_bytes words.now) (F.geometry flash)
+        (λ p. IsTranscript (F.geometry flash) (F.faults flash) (F.faults result.flash) (F.pages result.flash) p.events)
+        ((source.new ≡ source.old) × (F.pages result.flash ≡ F.pages flash))
+        (S.left source.old) (S.left source.new) (K.written sink.old) (K.written sink.new)
+        (Rose (S.faults source.old) (S.faults source.new)) (Rose (K.faults sink.old) (K.faults sink.new)) LINES result.status }
+    ensures geometry { F.geometry result.flash ≡ F.geometry flash }
     ensures source_later { S.faults source.old ≤ S.faults source.new }
     ensures sink_later { K.faults sink.old ≤ K.faults sink.new }
 {
@@ -64,7 +71,10 @@ pub fn run<S: Source, K: Sink, F: Flash>(
 }
 
 /// The shape of a unit with all blocks that a chip of this geometry can hold.
-fn whole_chip(geometry: Geometry) -> Shape {
+fn whole_chip(geometry: Geometry) -> Shape
+    requires { (geometry.blocks - 3) * geometry.pages < 2 ^ 32 }
+    ensures { result ≡ whole_chip geometry }
+{
     Shape {
         units: geometry
             .blocks
@@ -79,9 +89,8 @@ fn whole_chip(geometry: Geometry) -> Shape {
 
 /// The outcome where nothing is replayed.
 fn refused<K: Sink, F: Flash>(sink: &mut K, status: Status, text: &[u8], flash: F) -> Outcome<F>
-    ensures status { (result.status ≡ status) ⊎ (result.status ≡ Status.WriteFault) }
-    ensures write_fault { result.status ≡ Status.WriteFault → (status ≡ Status.WriteFault)
-        ⊎ Rose (K.faults sink.old) (K.faults sink.new) }
+    ensures refused { ((result.status ≡ status) × Appends (K.written sink.old) (K.written sink.new) text.now)
+        ⊎ ((result.status ≡ Status.WriteFault) × AppendsFront (K.written sink.old) (K.written sink.new) text.now × Rose (K.faults sink.old) (K.faults sink.new)) }
     ensures later { K.faults sink.old ≤ K.faults sink.new }
     ensures flash { result.flash ≡ flash }
 {

@@ -7,3 +7,4 @@ pub mod Tracing
 pub mod Entries
 pub mod Hinting
 pub mod Causing
+pub mod Units

@@ -63,3 +63,13 @@ foreign_ends = ((tt, tt), cause_foreign sizes (Unit {0}) 0 _ tt)
 foreign_block : Caused sizes (Unit {0}) 0 ([] ▹ Host (read 6 0x1000 0 1) ▹ Device (data_in 6 0 (block_of 0))) → ⊥
 unfolding reply_of effects_of wire_fault_of upiu_at upiu_out kind_of cdb_of
 foreign_block caused = caused.1 tt
+
+-- nor did one of a write
+no_write_cause : Caused sizes ⊥ 0 ([] ▹ Host (write 2 0x1000 0 1) ▹ Device (check_with 0x20 2 0x1000 0x03 0x0C)) → ⊥
+unfolding reply_of effects_of wire_fault_of upiu_at upiu_out kind_of cdb_of
+no_write_cause caused = caused.1.write refl
+
+-- and a failed program is no cause of a read's end
+wrong_call : Caused sizes ⊥ 0 ([] ▹ Host (read 6 0x3000 0 3) ▹ Failed Program ▹ Device (check_with 0x20 6 0x3000 0x03 0x11)) → ⊥
+unfolding reply_of effects_of wire_fault_of upiu_at upiu_out kind_of cdb_of
+wrong_call caused = let why = caused.1.read refl in let same : Failed Program ∷ Host (read 6 0x3000 0 3) ∷ [] ≡ Failed Read ∷ why.0 = why.1 in cc

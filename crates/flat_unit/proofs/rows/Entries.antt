@@ -1,13 +1,17 @@
 -- Lists of entries: what READ BUFFER lists, what a prefetch keeps, and what is counted of reads with entries.
-use Rattle.std.proofs.Common.{◌≡◌, ℕ, true, false, List, [], ◌∷◌, ◌++◌, Some, refl, arith, replicate}
-use Rattle.flat_unit.specs.declared.event.Event.TheVariants.{Host, Device, Reset, Moved}
+use Rattle.std.proofs.Common.{zero, suc, ◌+◌, ◌-◌, ◌*◌, Bool, ◌&&◌, ◌==◌, sym, subst, nat_le, slice_range, None, ◌≡◌, ℕ, true, false, List, [], ◌∷◌, ◌++◌, Some, refl, arith, replicate}
+use Rattle.std.specs.Prelude.{if◌then◌else◌}
+use Rattle.std.proofs.lemmas.Bool.Decides.{nat_tests}
+use Rattle.byteorder.specs.Endian.{big_number}
+use Rattle.flash_pages.specs.Place.{Place}
+use Rattle.flat_unit.specs.declared.event.Event.TheVariants.{Host, Device, Reset, Moved, Gone}
 use Rattle.hpb_cdb.specs.Read.{cdb_of}
 use Rattle.upiu_wire.specs.Kind.{kind_of}
 use Rattle.upiu_wire.specs.Upiu.{upiu_at, upiu_out}
 use Rattle.upiu_wire.specs.WireFault.{wire_fault_of}
 use Rattle.flat_unit.specs.Contents.{Block}
 use Rattle.flat_unit.specs.Counts.{Counted, blocks_by_entry, next_entry, sends, stretches}
-use Rattle.flat_unit.specs.Entries.{is_fresh, listed, no_page}
+use Rattle.flat_unit.specs.Entries.{TellsEntry, number_in, Told, is_fresh, listed, no_page}
 use Rattle.flat_unit.specs.History.{History, ◌▹◌}
 use Rattle.flat_unit.specs.Lists.{lists_after}
 use Rattle.flat_unit.specs.Queue.{tasks_after}
@@ -150,3 +154,56 @@ one_block = (refl, refl)
 one_stretch : (stretches sizes read_back ≡ 1) × (sends sizes read_back ≡ 4)
 unfolding reply_of effects_of wire_fault_of upiu_at kind_of cdb_of
 one_stretch = (refl, refl)
+
+-- an entry that is cut isn't listed
+cut_entry : listed small (tasks_after small ([] ▹ Host (read_buffer 7 0 0 12))) (Device (four 0x22 0 0 7 ++ z ++ four 0 0 0 12 ++ z ++ number 12 ++ z ++ z ++ z ++ entry 5 ++ number 0)) (place 1) ≡ None
+unfolding reply_of wire_fault_of upiu_at kind_of cdb_of
+cut_entry = refl
+
+-- a list serves the LBA that it was made for, and the entry of a CDB the first block alone
+abbrev other_lba : History
+other_lba = prefetched ▹ Host (hpb_read 12 0x2000 1 9 2 127)
+
+other_lba_entry : next_entry sizes other_lba (tasks_after sizes other_lba) ≡ Some 9
+unfolding reply_of wire_fault_of upiu_at kind_of cdb_of
+other_lba_entry = refl
+
+no_second_entry : next_entry sizes (other_lba ▹ Device (data_in 12 0 (block_of 0))) (tasks_after sizes (other_lba ▹ Device (data_in 12 0 (block_of 0)))) ≡ None
+unfolding reply_of wire_fault_of upiu_at kind_of cdb_of
+no_second_entry = refl
+
+-- a read that goes leaves its list, and a reset drops all lists
+list_stays : lists_after sizes (prefetched ▹ Host (hpb_read 12 0x2000 0 9 2 127) ▹ Gone 12) ≡ lists_after sizes prefetched
+unfolding reply_of wire_fault_of upiu_at kind_of cdb_of
+list_stays = refl
+
+lists_dropped : lists_after sizes (prefetched ▹ Reset) ≡ []
+lists_dropped = refl
+
+-- what is listed must be told by the first chip: a page where it had one or a write was GOOD, and none where no write came
+abbrev all_none : List ℕ
+all_none = replicate 8 0xFF
+
+number_told : (p : Place) (k : ℕ) → TellsEntry small 32 (λ _. false) ([] ▹ Host (read_buffer 7 2 1 16)) p (number_in all_none 0 (8 * k))
+unfolding reply_of wire_fault_of upiu_at kind_of cdb_of
+number_told p zero = refl
+number_told p (suc k) =
+    let outside : nat_le (8 * suc k + 8) 8 ≡ false = grind (arith, nat_tests) in
+    subst (λ (b : Bool). TellsEntry small 32 (λ _. false) ([] ▹ Host (read_buffer 7 2 1 16)) p (if nat_le 0 (8 * suc k) && b then Some (big_number 8 (slice_range all_none (8 * suc k - 0) (8 * suc k - 0 + 8))) else None)) (sym outside)
+    (none_there (nat_le 0 (8 * suc k)))
+  where
+    none_there : (b : Bool) → TellsEntry small 32 (λ _. false) ([] ▹ Host (read_buffer 7 2 1 16)) p (if b && false then Some (big_number 8 (slice_range all_none (8 * suc k - 0) (8 * suc k - 0 + 8))) else None)
+    none_there true = tt
+    none_there false = tt
+
+place_told : (p : Place) (b : Bool) → TellsEntry small 32 (λ _. false) ([] ▹ Host (read_buffer 7 2 1 16)) p (if b then number_in all_none 0 (8 * (p.lba - 18)) else None)
+place_told p true = number_told p (p.lba - 18)
+place_told p false = tt
+
+none_told : Told small 32 (λ _. false) none_listed
+unfolding reply_of wire_fault_of upiu_at kind_of cdb_of
+none_told = (((((tt, λ p. tt), λ p. place_told p ((0 == p.lun) && nat_le 18 p.lba)), λ p. tt), λ p. tt), λ p. tt)
+
+wrongly_told : Told small 32 (λ _. false) one_listed → ⊥
+unfolding reply_of wire_fault_of upiu_at kind_of cdb_of
+wrongly_told told = let listed = told.0.1 (place 0) in omega (arith, listed)

@@ -39,3 +39,8 @@ four_reads = ((((((((((((tt, tt), tt), (refl, tt)), tt), tt), (refl, tt)), tt), 
 untold : Hinted shape small (one_read three_reads 4 (good 4)) → ⊥
 unfolding reply_of effects_of wire_fault_of upiu_at upiu_out kind_of cdb_of hint_of after_take after_read after_told due
 untold hinted = let same = hinted.1.0 in cc
+
+-- what was told isn't told again
+five_reads : Hinted shape small (one_read (one_read three_reads 4 (active_told 4)) 5 (good 5))
+unfolding reply_of effects_of wire_fault_of upiu_at upiu_out kind_of cdb_of hint_of after_take after_read after_told due
+five_reads = (((four_reads, tt), tt), (refl, tt))

@@ -190,3 +190,12 @@ unit_reset = record { so_far = ((((((tt, tt), tt), tt), refl), refl), refl); not
 not_served : Sound (record sizes { queries = false; manages = false }) blank_unit ([] ▹ Host reset_request ▹ Device (reject 0 3 7) ▹ Host abort ▹ Device (reject 0 1 7))
 unfolding reply_of effects_of wire_fault_of upiu_at upiu_out kind_of cdb_of
 not_served = record { so_far = ((((tt, tt), refl), tt), refl); nothing_owed = refl }
+
+-- an index or a selector
+wrong_index : Answers (four 0x16 0 0 5 ++ four 0 0x01 0 0 ++ z ++ four 0x05 0x12 1 1 ++ replicate 16 0) (four 0x36 0 0 5 ++ four 0 0x01 0xFC 0 ++ z ++ four 0x05 0x12 1 1 ++ replicate 16 0)
+unfolding reply_of effects_of wire_fault_of upiu_at upiu_out kind_of cdb_of
+wrong_index = record { so_far = ((tt, tt), refl); nothing_owed = refl }
+
+wrong_selector : Answers (four 0x16 0 0 5 ++ four 0 0x01 0 0 ++ z ++ four 0x05 0x12 0 1 ++ replicate 16 0) (four 0x36 0 0 5 ++ four 0 0x01 0xFB 0 ++ z ++ four 0x05 0x12 0 1 ++ replicate 16 0)
+unfolding reply_of effects_of wire_fault_of upiu_at upiu_out kind_of cdb_of
+wrong_selector = record { so_far = ((tt, tt), refl); nothing_owed = refl }

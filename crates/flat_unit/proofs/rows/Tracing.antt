@@ -1,6 +1,7 @@
 -- The trace of a read of a block that was never written: the steps that look at the chip, and those that send.
 use Rattle.std.proofs.Common.{◌≡◌, ◌<◌, ◌≤◌, ℕ, zero, suc, Bool, true, false, ◌&&◌, List, [], ◌∷◌, ◌++◌, Some, None, refl, arith, codes, inr, nat_le}
 use Rattle.std.proofs.lemmas.Bool.Decides.{nat_tests}
+use Rattle.flash_pages.specs.declared.chip.ChipOp.TheVariants.{Read}
 use Rattle.flat_unit.specs.declared.event.Event.TheVariants.{Host, Device}
 use Rattle.hex.specs.Hex.{encode_with}
 use Rattle.hpb_cdb.specs.Read.{cdb_of}
@@ -68,3 +69,7 @@ printed : print ([] ▹ Host (test_ready 7) ▹ Device (good 7))
     ≡ codes "> 01000007" ++ codes "00000000000000000000000000000000000000000000000000000000\n< 21000007" ++ codes "00000000000000000000000000000000000000000000000000000000\n"
 unfolding print encode_with
 printed = refl
+
+-- a step that failed has looked at no page
+failed_step : (p : Progress) → (stepped sizes p (record { failed = Some Read; moved = None; sent = None })).quiet ≡ p.quiet
+failed_step p = refl

@@ -81,7 +81,7 @@ no_write_ends : (command : Cdb) → is_write command ≡ false → blocks_of_wri
 no_write_ends (Write lba n) other = cc
 no_write_ends _ other = refl
 
-no_write_holds : (s : Sizes) (command : Cdb) (task : Task) (p : Place) → is_write command ≡ false → block_written s task command p ≡ None
+pub no_write_holds : (s : Sizes) (command : Cdb) (task : Task) (p : Place) → is_write command ≡ false → block_written s task command p ≡ None
 no_write_holds s (Write lba n) task p other = cc
 no_write_holds s _ task p other = refl
 

@@ -1,8 +1,8 @@
 -- What the definitions say of a history with one more event, or with the events of one call.
-use Rattle.std.proofs.Common.{◌≡◌, ℕ, ◌+◌, ◌^◌, ◌<◌, List, [], ◌∷◌, ◌++◌, length, Bool, not, ◌&&◌, nat_le, Some, None, true, false, inr, arith, refl, sym, ◌∙◌, ap, subst, drop}
+use Rattle.std.proofs.Common.{Option, ◌≡◌, ℕ, ◌+◌, ◌^◌, ◌<◌, List, [], ◌∷◌, ◌++◌, length, Bool, not, ◌&&◌, nat_le, Some, None, true, false, inr, arith, refl, sym, ◌∙◌, ap, subst, drop}
 use Rattle.std.proofs.lemmas.List.{append_assoc, append-nil}
 use Rattle.std.proofs.lemmas.Bool.Decides.{nat_tests}
-use Rattle.std.specs.Prelude.{flat_map}
+use Rattle.std.specs.Prelude.{flat_map, if◌then◌else◌}
 use Rattle.byteorder.specs.Numbers.{big_number-reads_back}
 use Rattle.upiu_wire.specs.declared.kind.Kind.{Kind}
 use Rattle.upiu_wire.specs.declared.kind.Kind.TheVariants.{NopOut, Command, DataOut, ManageRequest, QueryRequest, DataIn, ReadyToTransfer}
@@ -16,6 +16,8 @@ use Rattle.flat_unit.specs.Causes.{failures}
 use Rattle.flat_unit.specs.declared.event.Event.{Event}
 use Rattle.flat_unit.specs.declared.event.Event.TheVariants.{Host, Device, Failed}
 use Rattle.flat_unit.specs.History.{History, ◌▹◌, followed_by}
+use Rattle.flat_unit.specs.Manage.{manage_events}
+use Rattle.flat_unit.specs.Query.{query_events}
 use Rattle.flat_unit.specs.Sizes.{Sizes}
 use Rattle.flat_unit.specs.Task.{Task}
 use Rattle.flat_unit.specs.Trace.{Line}
@@ -168,3 +170,17 @@ idle_step s p g rests unmoved silent = record {
   where
     no_bytes : {bytes : List ℕ} → None ≡ Some bytes → ⊥
     no_bytes is = cc
+
+-- where neither query nor task management requests are served, only replies follow the host's bytes
+pub no_effects : (s : Sizes) (on : Bool) (tasks : List Task) (bytes : List ℕ) → s.queries ≡ false → s.manages ≡ false → effects_of s on tasks bytes ≡ []
+unfolding effects_of
+no_effects s on tasks bytes no_queries no_manages = by_fault (wire_fault_of bytes)
+  where
+    by_kind : (kind : Kind) → effects_by_kind kind s on tasks (upiu_at bytes) ≡ []
+    by_kind QueryRequest = ap (λ (b : Bool). if b then query_events on (upiu_at bytes) else []) no_queries
+    by_kind ManageRequest = ap (λ (b : Bool). if b then manage_events s tasks (upiu_at bytes) else []) no_manages
+    by_kind _ = refl
+
+    by_fault : (fault : Option WireFault) → effects_by_fault s on tasks bytes fault ≡ []
+    by_fault (Some fault) = refl
+    by_fault None = by_kind (upiu_at bytes).kind

@@ -19,10 +19,10 @@ use Rattle.upiu_wire.specs.declared.fault.WireFault.{WireFault}
 use Rattle.upiu_wire.proofs.Reading.{kind_of-code}
 use Rattle.flat_unit.specs.declared.event.Event.{Event}
 use Rattle.flat_unit.specs.declared.event.Event.TheVariants.{Host, Device, Reset, Moved, Failed, Cleared, Switched, Gone}
-use Rattle.flat_unit.specs.Command.{command_of, is_hpb, bytes_taken, needed}
+use Rattle.flat_unit.specs.Command.{is_write, command_of, is_hpb, bytes_taken, needed}
 use Rattle.flat_unit.specs.Contents.{Block, Shown, Leaving, answered, block_written, candidates, is_among, is_same, leaving, leaving_all, left_by, offset_in, seen_at, shown, shown_by_kind, with_block}
 use Rattle.flat_unit.specs.History.{History, ◌▹◌}
-use Rattle.flat_unit.specs.Laws.{ChangesNothing, FirstAlone, IsFirst, MovedAll}
+use Rattle.flat_unit.specs.Laws.{IsUncut, NoneCut, ChangesNothing, FirstAlone, IsFirst, MovedAll}
 use Rattle.flat_unit.specs.Queue.{after_reply, on_after, tasks_after}
 use Rattle.flat_unit.specs.Manage.{goes, manage_reply, manage_events}
 use Rattle.flat_unit.specs.Query.{query_code, query_reply, query_events, query_effect, is_change, idn_of, reset_flag, on_after_query}
@@ -32,6 +32,7 @@ use Rattle.flat_unit.specs.Sizes.{Sizes, limits_of}
 use Rattle.flat_unit.specs.Sound.{Comes, SoundSoFar, owed, reply_events}
 use Rattle.flat_unit.specs.Task.{Task}
 use Rattle.flat_unit.specs.Tasks.{IsAlone, IsQueue}
+use Rattle.flat_unit.proofs.Goes.{no_write_holds}
 use Rattle.flat_unit.proofs.Queue.{none_has, queue_after, same_tag}
 
 -- a list that only grows
@@ -397,3 +398,29 @@ nothing_changes s u e (Switched on) p is = refl
 nothing_changes s u e (Device bytes) p is = absurd is
 nothing_changes s u e Reset p is = absurd is
 nothing_changes s u e (Gone tag) p is = absurd is
+
+-- where no write was cut each place has one block
+one_left : (s : Sizes) (p : Place) (blocks : List Block) (l : Leaving) → IsUncut l → length blocks ≡ 1 → length (left_by s p blocks l) ≡ 1
+one_left s p blocks l uncut one = ⊎_elim
+    (λ (other : is_write l.task.command ≡ false). ap (λ (o : Option Block). length (with_block l.good blocks o)) (no_write_holds s l.task.command l.task p other) ∙ one)
+    (λ (good : l.good ≡ true). ap (λ (g : Bool). length (with_block g blocks (block_written s l.task l.task.command p))) good ∙ by_block (block_written s l.task l.task.command p))
+    uncut
+  where
+    by_block : (o : Option Block) → length (with_block true blocks o) ≡ 1
+    by_block None = one
+    by_block (Some b) = refl
+
+pub one_block : (s : Sizes) (u : List Block) (e : History) (p : Place) → NoneCut s e → length (candidates s u e p) ≡ 1
+one_block s u [] p none = refl
+one_block s u (x ∷ e) p none = by_shown (shown s (tasks_after s e) x) _ (by_leaving (leaving (tasks_after s e) x) (candidates s u e p) none.1 (one_block s u e p none.0))
+  where
+    by_leaving : (ls : List Leaving) (blocks : List Block) → AllByRecursion IsUncut ls → length blocks ≡ 1 → length (fold (left_by s p) blocks ls) ≡ 1
+    by_leaving [] blocks all one = one
+    by_leaving (l ∷ ls) blocks all one = by_leaving ls (left_by s p blocks l) all.1 (one_left s p blocks l all.0 one)
+
+    by_shown : (w : Option Shown) (blocks : List Block) → length blocks ≡ 1 → length (seen_at p blocks w) ≡ 1
+    by_shown None blocks one = one
+    by_shown (Some w) blocks one = elim (is_same w.place p) as (λ b. length (cond b (w.block ∷ []) blocks) ≡ 1) [
+      | true ↦ refl
+      | false ↦ one
+    ]

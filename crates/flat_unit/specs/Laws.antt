@@ -1,5 +1,5 @@
 -- Words for what holds of all histories (this project's own).
-use Rattle.std.specs.Prelude.{◌≡◌, ◌<◌, ◌^◌, ℕ, zero, suc, ◌+◌, Bool, List, [], ◌∷◌, length, map, ◌*◌, Option, Some, None, if◌then◌else◌}
+use Rattle.std.specs.Prelude.{false, true, ◌⊎◌, ◌≡◌, ◌<◌, ◌^◌, ℕ, zero, suc, ◌+◌, Bool, List, [], ◌∷◌, length, map, ◌*◌, Option, Some, None, if◌then◌else◌}
 use Rattle.std.specs.List.{AllByRecursion}
 use Rattle.flash_pages.specs.Place.{Place}
 use Rattle.hex.specs.Hex.{IsBytes}
@@ -7,8 +7,8 @@ use Rattle.upiu_wire.specs.declared.fault.WireFault.{WireFault}
 use Rattle.upiu_wire.specs.WireFault.{number_of, wire_fault_of}
 use Rattle.flat_unit.specs.declared.event.Event.{Event}
 use Rattle.flat_unit.specs.declared.event.Event.TheVariants.{Host, Device, Moved, Failed, Cleared, Switched, Gone}
-use Rattle.flat_unit.specs.Command.{bytes_given, bytes_taken}
-use Rattle.flat_unit.specs.Contents.{Leaving, Shown, shown}
+use Rattle.flat_unit.specs.Command.{bytes_given, bytes_taken, is_write}
+use Rattle.flat_unit.specs.Contents.{Leaving, Shown, leaving, shown}
 use Rattle.flat_unit.specs.History.{History}
 use Rattle.flat_unit.specs.Queue.{tasks_after}
 use Rattle.flat_unit.specs.Replays.{keeps_head}
@@ -78,3 +78,12 @@ pub record IsRejectedFor (bytes : List ℕ) (reason : ℕ) : Type 0 where
   pub fault : WireFault
   pub found : wire_fault_of bytes ≡ Some fault
   pub number : number_of fault ≡ reason
+
+-- a task that leaves is no write, or it is answered GOOD
+abbrev pub IsUncut : Leaving → Type 0
+IsUncut l = (is_write l.task.command ≡ false) ⊎ (l.good ≡ true)
+
+-- no write was cut
+abbrev pub NoneCut : Sizes → History → Type 0
+NoneCut s [] = Unit {0}
+NoneCut s (x ∷ e) = NoneCut s e × AllByRecursion IsUncut (leaving (tasks_after s e) x)

@@ -12,7 +12,7 @@ ghost use Rattle.flat_unit.specs.declared.event.Event.TheVariants.{Device};
 ghost use Rattle.flat_unit.specs.Command.{needed};
 ghost use Rattle.flat_unit.specs.Contents.{Block, Shown, candidates, is_among, leaving, offset_in, shown};
 ghost use Rattle.flat_unit.specs.History.{History, ◌▹◌};
-ghost use Rattle.flat_unit.specs.Laws.{ChangesNothing, FirstAlone, HaveRoom, IsRejectedFor, MovedAll, places_from, shown_by_first};
+ghost use Rattle.flat_unit.specs.Laws.{NoneCut, ChangesNothing, FirstAlone, HaveRoom, IsRejectedFor, MovedAll, places_from, shown_by_first};
 ghost use Rattle.flat_unit.specs.Print.{print};
 ghost use Rattle.flat_unit.specs.Queue.{tasks_after};
 ghost use Rattle.flat_unit.specs.Reply.{fault_rejection, reply_of};
@@ -89,4 +89,9 @@ pub fn rejects_what_is_no_upiu()
         → wire_fault_of bytes ≡ Some fault → reply_of s on tasks bytes ≡ Some (fault_rejection bytes (number_of fault)) }
     ensures only { (s : Sizes) (on : Bool) (tasks : List Task) (bytes : List ℕ) (lun tag reason : ℕ)
         → reason ≤ 6 → reply_of s on tasks bytes ≡ Some (reject_upiu lun tag reason) → IsRejectedFor bytes reason }
+{}
+
+/// Where no write was cut, each place has one block.
+pub fn one_block_where_none_is_cut()
+    ensures { (s : Sizes) (u : List Block) (e : History) (p : Place) → NoneCut s e → length (candidates s u e p) ≡ 1 }
 {}

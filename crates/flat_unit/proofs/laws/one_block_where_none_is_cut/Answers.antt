@@ -1,0 +1,5 @@
+use Rattle.flat_unit.proofs.Subject.{one_block}
+use Rattle.flat_unit.proofs.laws.one_block_where_none_is_cut.Goals as goal
+
+pub returns : goal.returns
+returns c = one_block

@@ -62,7 +62,7 @@ apart_fewer keep (task ∷ tasks) apart = elim (keep task) as (λ b. AreApart (c
   | false ↦ apart_fewer keep tasks apart.1
 ]
 
-all_fewer : (P : Task → Type 0) (keep : Task → Bool) (tasks : List Task) → AllByRecursion P tasks → AllByRecursion P (filter keep tasks)
+pub all_fewer : (P : Task → Type 0) (keep : Task → Bool) (tasks : List Task) → AllByRecursion P tasks → AllByRecursion P (filter keep tasks)
 all_fewer P keep [] all = tt
 all_fewer P keep (task ∷ tasks) all = elim (keep task) as (λ b. AllByRecursion P (cond b (task ∷ filter keep tasks) (filter keep tasks))) [
   | true ↦ (all.0, all_fewer P keep tasks all.1)

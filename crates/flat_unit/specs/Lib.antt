@@ -21,4 +21,5 @@ pub mod Hints
 pub mod Entries
 pub mod Counts
 pub mod Replays
+pub mod Pages
 pub mod Laws

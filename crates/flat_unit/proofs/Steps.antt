@@ -433,7 +433,7 @@ response_harmless s tasks lun tag status residual segment residual_fits segment_
 }
 
 -- one more block of a write, and the other places
-same_place : (p q : Place) → is_same p q ≡ true → p ≡ q
+pub same_place : (p q : Place) → is_same p q ≡ true → p ≡ q
 same_place p q true_test =
     let lun : p.lun ≡ q.lun = grind (arith, nat_tests) in
     let lba : p.lba ≡ q.lba = grind (arith, nat_tests) in
@@ -442,7 +442,7 @@ same_place p q true_test =
 other_place : (lun lba : ℕ) (q : Place) → is_same (record { lun = lun; lba = lba }) q ≡ false → lun ≡ q.lun → lba ≡ q.lba → ⊥
 other_place lun lba q is one two = false≢true (sym is ∙ (ap (λ (b : Bool). b && (lba == q.lba)) (eq-eqb lun q.lun one) ∙ eq-eqb lba q.lba two))
 
-among_next : (lun lba k : ℕ) (q : Place) → is_same (record { lun = lun; lba = lba + k }) q ≡ false → is_among lun lba (k + 1) q ≡ is_among lun lba k q
+pub among_next : (lun lba k : ℕ) (q : Place) → is_same (record { lun = lun; lba = lba + k }) q ≡ false → is_among lun lba (k + 1) q ≡ is_among lun lba k q
 among_next lun lba k q is = by_tests (lun == q.lun) (nat_le lba q.lba) (nat_lt q.lba (lba + (k + 1))) (nat_lt q.lba (lba + k)) refl refl refl
   where
     by_tests : (a b c d : Bool) → (lun == q.lun) ≡ a → nat_lt q.lba (lba + (k + 1)) ≡ c → nat_lt q.lba (lba + k) ≡ d → (a && (b && c)) ≡ (a && (b && d))

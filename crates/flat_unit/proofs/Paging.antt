@@ -1,23 +1,21 @@
 -- Which pages the chip of a device has after one more event, and that fresh entries are its pages.
-use Rattle.std.proofs.Common.{◌≡◌, ◌⊎◌, ⊎_elim, inl, inr, ℕ, ◌+◌, ◌*◌, ◌/◌, ◌<◌, ◌≤◌, Bool, true, false, not, cond, ◌&&◌, ◌||◌, List, [], ◌∷◌, ◌++◌, length, filter, Option, Some, None, Result, Ok, Err, refl, sym, ◌∙◌, ap, subst, arith, ◌==◌, nat_lt, nat_le}
-use Rattle.std.specs.Prelude.{if◌then◌else◌, is_none, is_some}
-use Rattle.std.specs.List.{AllByRecursion, list_any}
+use Rattle.std.proofs.Common.{◌≡◌, ℕ, ◌+◌, ◌<◌, Bool, true, false, ◌&&◌, ◌||◌, List, [], ◌∷◌, length, Option, Some, None, refl, sym, ◌∙◌, ap, subst, arith}
+use Rattle.std.specs.Prelude.{if◌then◌else◌, is_some}
+use Rattle.std.specs.List.{list_any}
 use Rattle.std.proofs.lemmas.Bool.{false≢true}
 use Rattle.std.proofs.lemmas.Bool.Decides.{nat_tests}
 use Rattle.flash_pages.specs.Place.{Place, IsPlace}
 use Rattle.hpb_cdb.specs.declared.cdb.Cdb.{Cdb}
 use Rattle.hpb_cdb.specs.declared.cdb.Cdb.TheVariants.{Write}
 use Rattle.flat_unit.specs.declared.event.Event.{Event}
-use Rattle.flat_unit.specs.declared.event.Event.TheVariants.{Host, Device, Reset, Moved}
 use Rattle.flat_unit.specs.Contents.{Leaving, is_among, is_same, leaving}
-use Rattle.flat_unit.specs.Entries.{is_entry, is_fresh, listed, no_page, spoils, was_listed}
 use Rattle.flat_unit.specs.History.{History, ◌▹◌}
-use Rattle.flat_unit.specs.Pages.{HasPages, HeadTouched, KeepsFresh}
-use Rattle.flat_unit.specs.Queue.{on_after, tasks_after}
+use Rattle.flat_unit.specs.Pages.{HasPages, HeadTouched}
+use Rattle.flat_unit.specs.Queue.{tasks_after}
 use Rattle.flat_unit.specs.Sizes.{Sizes}
 use Rattle.flat_unit.specs.Stands.{Kept, is_programmed, is_programmed_for}
 use Rattle.flat_unit.specs.Task.{Task}
-use Rattle.flat_unit.specs.Writes.{covers, is_settled, is_touched, is_written_by, takes_data, whole_blocks}
+use Rattle.flat_unit.specs.Writes.{covers, is_settled, is_touched, is_written_by}
 use Rattle.flat_unit.proofs.Goes.{left_with, none_programmed, with_tasks}
 use Rattle.flat_unit.proofs.Steps.{among_next, programmed_more, same_place}
 use Rattle.flat_unit.proofs.Touched.{come_touched}
@@ -89,6 +87,7 @@ pages_good s had kept page_of e x task others lba n is all leaves has =
     or_false : (b : Bool) → (b || false) ≡ true → b ≡ true
     or_false true is = refl
     or_false false is = is
+
     covered : (p : Place) → (covers p task || false) ≡ true → is_programmed kept.programmed (task ∷ others) p ≡ true
     covered p one =
         subst (λ (c : Cdb). is_programmed_for kept.programmed task c p ≡ true) (sym is)
@@ -112,23 +111,29 @@ pages_programmed s had kept page_of e task others lba n page is more come keeps 
     fewer p other one =
         subst (λ (c : Cdb). is_programmed_for kept.programmed task c p ≡ true) (sym is)
         (sym (among_next task.lun lba kept.programmed p other) ∙ subst (λ (c : Cdb). is_programmed_for (kept.programmed + 1) task c p ≡ true) is one)
+
     split : (a b c d : Bool) → (c ≡ true → d ≡ true) → (a || (b || c)) ≡ true → (a || (b || d)) ≡ true
     split true b c d f one = refl
     split false true c d f one = refl
     split false false c d f one = f one
+
     by_place : (p : Place) → IsPlace s.luns s.units p → (b : Bool) → is_same (record { lun = task.lun; lba = lba + kept.programmed }) p ≡ b
         → (had p || (is_settled s e p || is_programmed (kept.programmed + 1) (task ∷ others) p)) ≡ true → is_some (if b then Some page else page_of p) ≡ true
     by_place p place true same one = refl
     by_place p place false same one = has.there p place (split (had p) (is_settled s e p) (is_programmed (kept.programmed + 1) (task ∷ others) p) (is_programmed kept.programmed (task ∷ others) p) (fewer p same) one)
+
     right_false : (a b : Bool) → (a || b) ≡ false → b ≡ false
     right_false false b none = none
     right_false true b none = absurd (false≢true (sym none))
+
     here : is_among task.lun lba n (record { lun = task.lun; lba = lba + kept.programmed }) ≡ true
     here = grind (arith, nat_tests)
+
     touched : is_touched s e (record { lun = task.lun; lba = lba + kept.programmed }) ≡ true
     touched = subst (λ (ts : List Task). HeadTouched (record { lun = task.lun; lba = lba + kept.programmed }) (is_touched s e (record { lun = task.lun; lba = lba + kept.programmed })) ts) keeps
         (come_touched s (record { lun = task.lun; lba = lba + kept.programmed }) e) come
         (ap (is_written_by (record { lun = task.lun; lba = lba + kept.programmed }) task) is ∙ here)
+
     gone_place : (p : Place) → IsPlace s.luns s.units p → (b : Bool) → is_same (record { lun = task.lun; lba = lba + kept.programmed }) p ≡ b
         → (had p || is_touched s e p) ≡ false → (if b then Some page else page_of p) ≡ None
     gone_place p place false same none = has.absent p place none

@@ -1,7 +1,7 @@
 -- A write for which data have come took DATA OUT, and what READ BUFFER lists of pages is told.
-use Rattle.std.proofs.Common.{◌≡◌, ◌⊎◌, inl, inr, ℕ, ◌+◌, ◌<◌, Bool, true, false, not, cond, ◌&&◌, ◌||◌, List, [], ◌∷◌, ◌++◌, length, filter, Option, Some, None, Result, Ok, Err, refl, sym, ◌∙◌, ap, subst, arith}
-use Rattle.std.specs.Prelude.{if◌then◌else◌, is_none, is_some, unwrap_or, MatchBool}
-use Rattle.std.specs.List.{AllByRecursion, list_any}
+use Rattle.std.proofs.Common.{◌≡◌, inl, inr, ℕ, ◌+◌, ◌<◌, Bool, true, false, not, cond, ◌&&◌, ◌||◌, List, [], ◌∷◌, ◌++◌, length, filter, Option, Some, None, Result, Ok, Err, refl, sym, ◌∙◌, ap, subst, arith}
+use Rattle.std.specs.Prelude.{if◌then◌else◌, is_none, is_some, unwrap_or}
+use Rattle.std.specs.List.{AllByRecursion}
 use Rattle.std.proofs.lemmas.Bool.{false≢true}
 use Rattle.flash_pages.specs.Place.{Place, IsPlace}
 use Rattle.hpb_cdb.specs.declared.cdb.Cdb.{Cdb}
@@ -15,13 +15,13 @@ use Rattle.flat_unit.specs.Command.{command_of}
 use Rattle.flat_unit.specs.Entries.{TellsEntry, TellsPage, Told, listed, no_page}
 use Rattle.flat_unit.specs.History.{History, ◌▹◌}
 use Rattle.flat_unit.specs.Pages.{ArePages, HasPages, HeadTouched, entry_at}
-use Rattle.flat_unit.specs.Queue.{after_kept, after_reply, after_sent, change_head, on_after, task_of, tasks_after, tasks_changed, with_asked, with_command, with_data, with_sent, without_tag}
+use Rattle.flat_unit.specs.Queue.{after_kept, after_reply, after_sent, change_head, on_after, task_of, tasks_after, tasks_changed, with_asked, with_command, with_data, with_sent}
 use Rattle.flat_unit.specs.Reply.{has_tag, reply_of}
 use Rattle.flat_unit.specs.Sizes.{Sizes}
 use Rattle.flat_unit.specs.Stands.{Kept, is_programmed}
 use Rattle.flat_unit.specs.Task.{Task}
 use Rattle.flat_unit.specs.Tasks.{IsQueue, IsUntouched}
-use Rattle.flat_unit.specs.Writes.{covers, data_for, head_covers, is_settled, is_touched, takes_data}
+use Rattle.flat_unit.specs.Writes.{data_for, head_covers, is_settled, is_touched, takes_data}
 use Rattle.flat_unit.proofs.Queue.{all_fewer, queue_after}
 
 or_true : (a b : Bool) → b ≡ true → (a || b) ≡ true
@@ -55,13 +55,16 @@ host_touched s on tasks p before bytes had = by_reply (reply_of s on tasks bytes
     by_cdb : (r : Result Cdb CdbFault) → HeadTouched p before (with_command tasks (upiu_at bytes) r)
     by_cdb (Ok command) = one_more p before tasks (task_of (upiu_at bytes) command) (record { asked = refl; come = refl; sent = refl }) had
     by_cdb (Err fault) = had
+
     by_head : (ts : List Task) → HeadTouched p (head_covers p ts || before) (change_head (with_data (upiu_at bytes).segment) ts)
     by_head [] = tt
     by_head (task ∷ others) = λ some covered. ap (λ (b : Bool). b || before) covered
+
     by_kind : (k : Kind) → HeadTouched p (data_for k p tasks || before) (after_kept s tasks (upiu_at bytes) k)
     by_kind Command = by_cdb (command_of s (upiu_at bytes).cdb)
     by_kind DataOut = by_head tasks
     by_kind _ = had
+
     by_reply : (r : Option Upiu) → HeadTouched p ((is_none r && data_for (upiu_at bytes).kind p tasks) || before) (after_reply s tasks (upiu_at bytes) r)
     by_reply (Some v) = had
     by_reply None = by_kind (upiu_at bytes).kind
@@ -102,6 +105,7 @@ entry_told s pages had kept page_of e p place are has = by_page (page_of p) refl
       where
         no_page_there : (x : ℕ) → Some x ≡ None → ⊥
         no_page_there x is = cc
+
         with_page : (a b c : Bool) (x : ℕ) → x < pages → ((a || c) ≡ false → ⊥) → TellsPage pages a b c x
         with_page true b c x below other = below
         with_page false true c x below other = below

@@ -30,3 +30,8 @@ KeepsFresh s page_of e = (p : Place) (x : ℕ) → IsPlace s.luns s.units p → 
 abbrev pub HeadTouched : Place → Bool → List Task → Type 0
 HeadTouched p touched [] = Unit {0}
 HeadTouched p touched (task ∷ _) = 0 < length task.come → covers p task ≡ true → touched ≡ true
+
+-- no entry of the place is listed since data came for a write that covers it
+abbrev pub HeadUnlisted : Place → Bool → List Task → Type 0
+HeadUnlisted p was [] = Unit {0}
+HeadUnlisted p was (task ∷ _) = 0 < length task.come → covers p task ≡ true → was ≡ false

@@ -531,3 +531,8 @@ stands_programmed s first kept e task others lba n is more come whole at =
 
     now : Kept
     now = programmed_more s (task ∷ others) task lba kept
+
+-- what a device hands back: each of its blocks is one that is allowed after a reset
+pub handed_back : (s : Sizes) (first : First) (kept : Kept) (e : History) → Stands s first kept e
+    → (p : Place) → IsPlace s.luns s.units p → Contains (candidates s first.unit (e ▹ Reset) p) (block_at s kept.unit p)
+handed_back s first kept e at = (stands_reset s first kept e at).holds

@@ -126,6 +126,7 @@ impl<F: Flash> Device<F> {
         ensures head { IfOk result (λ device. device.head ≡ None) }
         ensures shape { IfOk result (λ device. device.shape ≡ shape) }
         ensures luns { IfOk result (λ device. device.store.luns ≡ luns) }
+        ensures units { IfOk result (λ device. device.store.units ≡ shape.units) }
         ensures pages { IfOk result (λ device. device.store.pages ≡ F.pages flash) }
         ensures geometry { IfOk result (λ device. device.store.geometry ≡ F.geometry flash) }
         ensures faults { IfOk result (λ device. device.store.faults ≡ F.faults flash) }

@@ -2,5 +2,6 @@ pub mod Gathered
 pub mod OneItem
 pub mod Runs
 pub mod Standing
+pub mod Transcripts
 pub mod Turns
 pub mod Written

@@ -22,6 +22,8 @@ use Rattle.flat_unit.proofs.History.{print-▹, print-followed_by, failures-foll
 use Rattle.hpb_device.specs.declared.device.Sent.{Sent}
 use Rattle.hpb_device.specs.declared.device.Sent.TheVariants.{Nothing, Upiu as UpiuSent}
 use Rattle.hpb_device.specs.declared.device.Stepped.{Stepped}
+use Rattle.flash_store.specs.Store.{StoreState}
+use Rattle.hpb_device.specs.Advance.{IsSameStore}
 use Rattle.hpb_device.specs.Calls.{GoesOn}
 use Rattle.hpb_device.specs.Keeps.{KeepsTasks}
 use Rattle.hpb_device.specs.Standing.{DeviceStands, answer_events, first_of, group_of, sizes_of}
@@ -114,11 +116,15 @@ events_quiet start old new m r out at step =
     quiet_parts m.events r.failed (group_of r out).moved (group_of r out).sent (rw (going_moves_none old new r out step.goes) refl)
     (λ bytes is. code_of r.sent out bytes (going_tells old new r out step.goes) is) at.alive
 
+same_since : (first old new : StoreState) → IsSameStore first old → IsSameStore old new → IsSameStore first new
+same_since first old new before now = record { geometry = now.geometry ∙ before.geometry; luns = now.luns ∙ before.luns; units = now.units ∙ before.units }
+
 step_standing : (start old new : DeviceState) (m : Progress) (r : Stepped) (out : List ℕ) → Standing start old m → Stepping old new r out → Standing start new (after_step start m r out)
 step_standing start old new m r out at step = record {
   some_page = at.some_page;
   stands = step.stands (first_of start) m.events at.stands;
   sizes = going_sizes old new r out step.goes step.shape ∙ at.sizes;
+  same = same_since start.store old.store new.store at.same step.goes.same;
   faults = omega (arith, at.faults, going_fails old new r out step.goes, failures-followed_by m.events (events_of (group_of r out)));
   unmoved = (events_quiet start old new m r out at step).0 ∙ at.unmoved;
   alive = (events_quiet start old new m r out at step).1;
@@ -146,7 +152,7 @@ draining_begins start now before w gathered p at printed = record {
   moment = without_runs p;
   steps = refl;
   few = omega (arith, few_steps start now p at);
-  standing = record { some_page = at.some_page; stands = at.stands; sizes = at.sizes; faults = at.faults; unmoved = at.unmoved; alive = at.alive };
+  standing = record { some_page = at.some_page; stands = at.stands; sizes = at.sizes; same = at.same; faults = at.faults; unmoved = at.unmoved; alive = at.alive };
   printed = printed;
 }
 
@@ -204,7 +210,7 @@ pub blank_leads : (start now : DeviceState) (before w : Option (List ℕ)) (gath
 blank_leads start now before w gathered p at printed = record {
   moment = with_run (sizes_of start) p;
   reached = refl;
-  standing = record { some_page = at.some_page; stands = at.stands; sizes = at.sizes; faults = at.faults; unmoved = at.unmoved; alive = at.alive };
+  standing = record { some_page = at.some_page; stands = at.stands; sizes = at.sizes; same = at.same; faults = at.faults; unmoved = at.unmoved; alive = at.alive };
   printed = printed;
 }
 
@@ -239,6 +245,7 @@ kept_leads start old new before w gathered gathered_now bytes out p at got print
         some_page = at.some_page;
         stands = rw events (got.stands (first_of start) p.events at.stands);
         sizes = same_sizes old new got.store got.shape ∙ at.sizes;
+        same = rw got.store at.same;
         faults = rw (events, got.store) at.faults;
         unmoved = rw events at.unmoved;
         alive = rw events at.alive;

@@ -9,6 +9,7 @@ use Rattle.flat_unit.specs.Sound.{answers_to}
 use Rattle.flat_unit.specs.Queue.{on_after}
 use Rattle.flat_unit.specs.Writes.{moves}
 use Rattle.flat_unit.specs.Trace.{Line, Upiu, Drain, Blank}
+use Rattle.hpb_device.specs.Advance.{IsSameStore}
 use Rattle.hpb_device.specs.Standing.{DeviceStands, first_of, sizes_of}
 use Rattle.hpb_device.specs.State.{DeviceState}
 use Rattle.trace_replay.specs.declared.replay.Turn.{Turn}
@@ -22,6 +23,7 @@ pub record Standing (start now : DeviceState) (p : Progress) : Type 0 where
   pub some_page : 1 ≤ start.store.geometry.pages
   pub stands : DeviceStands now (first_of start) p.events
   pub sizes : sizes_of now ≡ sizes_of start
+  pub same : IsSameStore start.store now.store
   pub faults : FailuresWithin start.store.faults now.store.faults p.events
   pub unmoved : moves p.events ≡ 0
   pub alive : NeverDead p.events

@@ -1,5 +1,5 @@
 -- What a run promises of the events that it prints, and of the chip that it hands back.
-use Rattle.std.specs.Prelude.{◌≡◌, ⊤, ◌⊎◌, ℕ, ◌-◌, ◌*◌, List, [], ◌∷◌, replicate, Contains, Some}
+use Rattle.std.specs.Prelude.{◌≡◌, ⊤, ◌⊎◌, ℕ, ◌-◌, ◌*◌, ◌^◌, min, List, [], ◌∷◌, replicate, Contains, Some}
 use Rattle.flash_pages.specs.declared.chip.Geometry.{Geometry}
 use Rattle.flash_pages.specs.Chip.{Page, zeros}
 use Rattle.flash_pages.specs.Place.{Place, IsPlace}
@@ -16,9 +16,9 @@ use Rattle.flat_unit.specs.Writes.{moves}
 use Rattle.hpb_device.specs.Limits.{limits_of}
 use Rattle.hpb_device.specs.Sizes.{sizes}
 
--- one logical unit, of as many blocks as the chip has pages but for three erase blocks
+-- one logical unit, of as many blocks as the chip has pages but for three erase blocks, as far as 32 bits count them
 abbrev pub whole_chip : Geometry → Shape
-whole_chip geometry = record { units = (geometry.blocks - 3) * geometry.pages; region_exp = 10; sub_exp = 8; held = 4; mode = DeviceMode }
+whole_chip geometry = record { units = min ((geometry.blocks - 3) * geometry.pages) (2 ^ 32 - 1); region_exp = 10; sub_exp = 8; held = 4; mode = DeviceMode }
 
 abbrev pub sizes_on : Geometry → Sizes
 sizes_on geometry = sizes 1 (limits_of (whole_chip geometry)) geometry

@@ -1,4 +1,4 @@
-ghost use Rattle.std.specs.Prelude.{◌≡◌, ◌≤◌, ◌<◌, ◌-◌, ◌*◌, ◌^◌, ◌⊎◌, [], None, map, string_bytes};
+ghost use Rattle.std.specs.Prelude.{◌≡◌, ◌≤◌, ◌⊎◌, [], None, map, string_bytes};
 ghost use Rattle.hpb_outside.specs.Faults.{HasCause, Rose};
 ghost use Rattle.flash_pages.specs.Chip.{erased_chip};
 ghost use Rattle.std.specs.Io.KnownBytes.{Appends, prepend_known};
@@ -60,10 +60,13 @@ pub fn run<S: Source, K: Sink, F: Flash>(
             };
         }
     };
-    let status = match Buffers::new(alloc) {
-        Ok(mut buffers) => replay(&mut device, &mut buffers, source, sink),
-        Err(_) => Status::Memory,
+    let Ok(mut buffers) = Buffers::new(alloc) else {
+        return Outcome {
+            status: Status::Memory,
+            flash: device.into_flash(),
+        };
     };
+    let status = replay(&mut device, &mut buffers, source, sink);
     Outcome {
         status,
         flash: device.into_flash(),
@@ -72,7 +75,6 @@ pub fn run<S: Source, K: Sink, F: Flash>(
 
 /// The shape of a unit with all blocks that a chip of this geometry can hold.
 fn whole_chip(geometry: Geometry) -> Shape
-    requires { (geometry.blocks - 3) * geometry.pages < 2 ^ 32 }
     ensures { result ≡ whole_chip geometry }
 {
     Shape {

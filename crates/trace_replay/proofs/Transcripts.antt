@@ -1,0 +1,146 @@
+-- What a run promises of its events and of the chip, from where its device was left.
+use Rattle.std.proofs.Common.{◌≡◌, ℕ, ◌*◌, List, [], ◌∷◌, ◌++◌, Option, Some, None, refl, sym, ◌∙◌, ap, subst, arith, inl, inr}
+use Rattle.std.specs.Prelude.{Contains, replicate}
+use Rattle.std.specs.Io.KnownBytes.{prepend_known}
+use Rattle.std.proofs.KnownBytes.{prepend_known-nil}
+use Rattle.trace_text.specs.Lines.{EndsAt, WhereTold}
+use Rattle.flash_pages.specs.declared.chip.Geometry.{Geometry}
+use Rattle.flash_pages.specs.Chip.{Page, erased_chip, zeros}
+use Rattle.flash_pages.specs.Place.{Place, IsPlace}
+use Rattle.flash_pages.specs.Unit.{unit_of, next_seq}
+use Rattle.flash_pages.proofs.Units.{unit_of-erased}
+use Rattle.flash_pages.proofs.Programming.{next_seq-erased}
+use Rattle.flat_unit.specs.declared.event.Event.TheVariants.{Reset}
+use Rattle.flat_unit.specs.Causes.{Caused, FailuresWithin}
+use Rattle.flat_unit.specs.Contents.{Block, block_at, candidates}
+use Rattle.flat_unit.specs.History.{History, ◌▹◌}
+use Rattle.flat_unit.specs.Replays.{Progress}
+use Rattle.flat_unit.specs.Sizes.{Sizes}
+use Rattle.flat_unit.specs.Sound.{Sound}
+use Rattle.flat_unit.specs.Stands.{First, Stands}
+use Rattle.flat_unit.proofs.Steps.{handed_back}
+use Rattle.hpb_device.specs.Limits.{limits_of}
+use Rattle.hpb_device.specs.Sizes.{sizes}
+use Rattle.hpb_device.specs.Standing.{first_of, kept_of, sizes_of}
+use Rattle.hpb_device.specs.State.{DeviceState}
+use Rattle.trace_replay.specs.Moments.{Standing}
+use Rattle.trace_replay.specs.Run.{IsLeft, IsPlanned, ProgramIs, Ran, RunIs}
+use Rattle.trace_replay.specs.Transcript.{IsTranscript, sizes_on, whole_chip, zero_unit}
+use Rattle.trace_replay.specs.declared.status.Status.{Status}
+use Rattle.trace_replay.specs.declared.status.Status.TheVariants.{Done, BadLine, ReadFault, WriteFault, LongTrace, Usage, Memory, Geometry as BadGeometry, ChipFault, BadImage, BadCapture}
+use Rattle.trace_replay.proofs.Runs.{ran_with}
+
+-- a device that was made over an erased chip
+pub record IsFresh (device : DeviceState) (geometry : Geometry) (pages : List Page) (faults : ℕ) : Type 0 where
+  pub erased : pages ≡ erased_chip geometry
+  pub shape : device.shape ≡ whole_chip geometry
+  pub luns : device.store.luns ≡ 1
+  pub units : device.store.units ≡ (whole_chip geometry).units
+  pub pages_are : device.store.pages ≡ pages
+  pub geometry_is : device.store.geometry ≡ geometry
+  pub faults_are : device.store.faults ≡ faults
+
+pub fresh_sizes : (device : DeviceState) (geometry : Geometry) (pages : List Page) (faults : ℕ) → IsFresh device geometry pages faults → sizes_of device ≡ sizes_on geometry
+fresh_sizes device geometry pages faults fresh = λ i. sizes (fresh.luns i) (limits_of (fresh.shape i)) (fresh.geometry_is i)
+
+pub fresh_first : (device : DeviceState) (geometry : Geometry) (pages : List Page) (faults : ℕ) → IsFresh device geometry pages faults → first_of device ≡ record { unit = zero_unit geometry; next = 0 }
+fresh_first device geometry pages faults fresh =
+    let on_chip : first_of device ≡ record { unit = unit_of 1 (whole_chip geometry).units (erased_chip geometry); next = next_seq (erased_chip geometry) } =
+    λ i. record { unit = unit_of (fresh.luns i) (fresh.units i) ((fresh.pages_are ∙ fresh.erased) i); next = next_seq ((fresh.pages_are ∙ fresh.erased) i) } in
+    on_chip ∙ (λ i. record { unit = unit_of-erased 1 (whole_chip geometry).units (geometry.blocks * geometry.pages) i; next = next_seq-erased (geometry.blocks * geometry.pages) i })
+
+-- where a device is left is a transcript
+standing_transcript : (start device : DeviceState) (geometry : Geometry) (pages : List Page) (faults : ℕ) (p : Progress) → IsFresh start geometry pages faults → Standing start device p
+    → IsTranscript geometry faults device.store.faults device.store.pages p.events
+standing_transcript start device geometry pages faults p fresh at =
+    let sized : sizes_of device ≡ sizes_on geometry = at.sizes ∙ fresh_sizes start geometry pages faults fresh in
+    let here : Stands (sizes_on geometry) (record { unit = zero_unit geometry; next = 0 }) (kept_of device at.stands.tasks) p.events =
+    subst (λ (first : First). Stands (sizes_on geometry) first (kept_of device at.stands.tasks) p.events) (fresh_first start geometry pages faults fresh)
+    (subst (λ (s : Sizes). Stands s (first_of start) (kept_of device at.stands.tasks) p.events) sized at.stands.stands) in
+    record {
+      sound = here.sound;
+      caused = here.caused;
+      unmoved = at.unmoved;
+      alive = at.alive;
+      failures = subst (λ (n : ℕ). FailuresWithin n device.store.faults p.events) fresh.faults_are at.faults;
+      allowed = λ place inside.
+          let luns : device.store.luns ≡ 1 = at.same.luns ∙ fresh.luns in
+          let units : device.store.units ≡ (whole_chip geometry).units = at.same.units ∙ fresh.units in
+          subst (λ (l : ℕ). Contains (candidates (sizes_on geometry) (zero_unit geometry) (p.events ▹ Reset) place) (block_at (sizes_on geometry) (unit_of l (whole_chip geometry).units device.store.pages) place)) luns
+          (subst (λ (u : ℕ). Contains (candidates (sizes_on geometry) (zero_unit geometry) (p.events ▹ Reset) place) (block_at (sizes_on geometry) (unit_of device.store.luns u device.store.pages) place)) units
+          (handed_back (sizes_on geometry) (record { unit = zero_unit geometry; next = 0 }) (kept_of device at.stands.tasks) p.events here place inside));
+    }
+
+pub left_transcript : (start now : DeviceState) (geometry : Geometry) (pages back : List Page) (faults faults_back : ℕ) (p : Progress) → IsFresh start geometry pages faults → back ≡ now.store.pages → faults_back ≡ now.store.faults → IsLeft start now p
+    → IsTranscript geometry faults faults_back back p.events
+left_transcript start now geometry pages back faults faults_back p fresh is_back is_faults (device, at, same) =
+    rw (is_back, is_faults, same) (standing_transcript start device geometry pages faults p fresh at)
+
+-- what is said of the events may be weakened
+pub run_shows : (s : Sizes) (good better : Progress → Type 0) (left left_now w w_now : Option (List ℕ)) (source sink : Type 0) (limit : ℕ) (status : Status) → ((p : Progress) → good p → better p)
+    → RunIs s good left left_now w w_now source sink limit status → RunIs s better left left_now w w_now source sink limit status
+run_shows s good better left left_now w w_now source sink limit Done leads (mid, n, ran, ends) = (mid, n, ran_with s left mid n _ _ ran (leads _ ran.shows.0, ran.shows.1), ends)
+run_shows s good better left left_now w w_now source sink limit (BadLine number) leads (mid, n, ran, is) = (mid, n, ran_with s left mid n _ _ ran (leads _ ran.shows.0, ran.shows.1, ran.shows.2), is)
+run_shows s good better left left_now w w_now source sink limit ReadFault leads (mid, n, ran, rose) = (mid, n, ran_with s left mid n _ _ ran (leads _ ran.shows.0, ran.shows.1), rose)
+run_shows s good better left left_now w w_now source sink limit LongTrace leads (mid, ran, more) = (mid, ran_with s left mid limit _ _ ran (leads _ ran.shows.0, ran.shows.1), more)
+run_shows s good better left left_now w w_now source sink limit WriteFault leads (mid, n, last, words, ran, well, are, cut, rose) = (mid, n, last, words, ran, leads last well, are, cut, rose)
+run_shows s good better left left_now w w_now source sink limit Usage leads none = absurd none
+run_shows s good better left left_now w w_now source sink limit Memory leads none = absurd none
+run_shows s good better left left_now w w_now source sink limit BadGeometry leads none = absurd none
+run_shows s good better left left_now w w_now source sink limit ChipFault leads none = absurd none
+run_shows s good better left left_now w w_now source sink limit (BadImage fault) leads none = absurd none
+run_shows s good better left left_now w w_now source sink limit (BadCapture offset fault) leads none = absurd none
+
+-- a text that is at its end has nothing left in its source
+ends_in_source : (mid : Option (List ℕ)) (held : List ℕ) (left : Option (List ℕ)) → WhereTold EndsAt mid (prepend_known held left) → WhereTold EndsAt mid left
+ends_in_source None held left ends = tt
+ends_in_source (Some text) held None ends = absurd ends
+ends_in_source (Some text) [] (Some rest) ends = ends
+ends_in_source (Some text) (x ∷ held) (Some rest) ends = absurd (is_none ends.1)
+  where
+    is_none : x ∷ (held ++ rest) ≡ [] → ⊥
+    is_none is = cc
+
+run_from_source : (s : Sizes) (good : Progress → Type 0) (left left_now w w_now : Option (List ℕ)) (held : List ℕ) (source sink : Type 0) (limit : ℕ) (status : Status)
+    → RunIs s good left (prepend_known held left_now) w w_now source sink limit status → RunIs s good left left_now w w_now source sink limit status
+run_from_source s good left left_now w w_now held source sink limit Done (mid, n, ran, ends) = (mid, n, ran, ends_in_source mid held left_now ends)
+run_from_source s good left left_now w w_now held source sink limit (BadLine number) run = run
+run_from_source s good left left_now w w_now held source sink limit ReadFault run = run
+run_from_source s good left left_now w w_now held source sink limit LongTrace run = run
+run_from_source s good left left_now w w_now held source sink limit WriteFault run = run
+run_from_source s good left left_now w w_now held source sink limit Usage run = absurd run
+run_from_source s good left left_now w w_now held source sink limit Memory run = absurd run
+run_from_source s good left left_now w w_now held source sink limit BadGeometry run = absurd run
+run_from_source s good left left_now w w_now held source sink limit ChipFault run = absurd run
+run_from_source s good left left_now w w_now held source sink limit (BadImage fault) run = absurd run
+run_from_source s good left left_now w w_now held source sink limit (BadCapture offset fault) run = absurd run
+
+-- a replay that ended is what the program ends with
+program_of : (words : List (List ℕ)) (geometry : Geometry) (good : Progress → Type 0) (same : Type 0) (left left_now w w_now : Option (List ℕ)) (source sink : Type 0) (limit : ℕ) (status : Status)
+    → IsPlanned words geometry → RunIs (sizes_on geometry) good left left_now w w_now source sink limit status → ProgramIs words geometry good same left left_now w w_now source sink limit status
+program_of words geometry good same left left_now w w_now source sink limit Done planned run = (planned, run)
+program_of words geometry good same left left_now w w_now source sink limit (BadLine number) planned run = (planned, run)
+program_of words geometry good same left left_now w w_now source sink limit ReadFault planned run = (planned, run)
+program_of words geometry good same left left_now w w_now source sink limit LongTrace planned run = (planned, run)
+program_of words geometry good same left left_now w w_now source sink limit WriteFault planned run = inr (planned, run)
+program_of words geometry good same left left_now w w_now source sink limit Usage planned run = absurd run
+program_of words geometry good same left left_now w w_now source sink limit Memory planned run = absurd run
+program_of words geometry good same left left_now w w_now source sink limit BadGeometry planned run = absurd run
+program_of words geometry good same left left_now w w_now source sink limit ChipFault planned run = absurd run
+program_of words geometry good same left left_now w w_now source sink limit (BadImage fault) planned run = absurd run
+program_of words geometry good same left left_now w w_now source sink limit (BadCapture offset fault) planned run = absurd run
+
+-- the promise of a run, in terms of the chip
+pub run_of_chip : (words : List (List ℕ)) (geometry : Geometry) (start now : DeviceState) (pages back : List Page) (faults faults_back : ℕ) (same : Type 0) (left left_now w w_now : Option (List ℕ)) (held held_now : List ℕ) (source sink : Type 0) (limit : ℕ) (status : Status)
+    → IsPlanned words geometry → IsFresh start geometry pages faults → held ≡ [] → back ≡ now.store.pages → faults_back ≡ now.store.faults
+    → RunIs (sizes_of start) (IsLeft start now) (prepend_known held left) (prepend_known held_now left_now) w w_now source sink limit status
+    → ProgramIs words geometry (λ p. IsTranscript geometry faults faults_back back p.events) same left left_now w w_now source sink limit status
+run_of_chip words geometry start now pages back faults faults_back same left left_now w w_now held held_now source sink limit status planned fresh none is_back is_faults run =
+    let good : Progress → Type 0 = λ p. IsTranscript geometry faults faults_back back p.events in
+    let from : prepend_known held left ≡ left = ap (λ (l : List ℕ). prepend_known l left) none ∙ prepend_known-nil left in
+    let run1 : RunIs (sizes_on geometry) (IsLeft start now) left (prepend_known held_now left_now) w w_now source sink limit status =
+    subst (λ (s : Sizes). RunIs s (IsLeft start now) left (prepend_known held_now left_now) w w_now source sink limit status) (fresh_sizes start geometry pages faults fresh)
+    (subst (λ (l : Option (List ℕ)). RunIs (sizes_of start) (IsLeft start now) l (prepend_known held_now left_now) w w_now source sink limit status) from run) in
+    program_of words geometry good same left left_now w w_now source sink limit status planned
+    (run_from_source (sizes_on geometry) good left left_now w w_now held_now source sink limit status
+    (run_shows (sizes_on geometry) (IsLeft start now) good left (prepend_known held_now left_now) w w_now source sink limit status (λ p at. left_transcript start now geometry pages back faults faults_back p fresh is_back is_faults at) run1))

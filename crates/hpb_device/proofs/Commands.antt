@@ -1,8 +1,7 @@
 -- What a task is whose command is known.
-use Rattle.std.proofs.Common.{◌≡◌, ℕ, ◌+◌, ◌*◌, ◌^◌, ◌<◌, ◌≤◌, List, Option, Some, None, refl, sym, subst, ap, arith}
+use Rattle.std.proofs.Common.{◌≡◌, ℕ, ◌+◌, ◌*◌, ◌^◌, ◌<◌, ◌≤◌, List, Option, Some, None, refl, subst, ap, arith}
 use Rattle.flash_pages.specs.declared.chip.TheConstants.{BLOCK_BYTES}
 use denote.Ref.{Bor}
-use Rattle.hpb_cdb.specs.declared.cdb.Cdb.{Cdb}
 use Rattle.hpb_cdb.specs.declared.cdb.Cdb.TheVariants.{Read, Write}
 use Rattle.hpb_device.specs.declared.task.Task.{Task}
 use Rattle.hpb_cdb.specs.declared.limits.Limits.{Limits}

@@ -1,13 +1,11 @@
 -- What a step of a device tells, and where it leaves the device, whatever its command.
-use Rattle.std.proofs.Common.{◌≡◌, ℕ, ◌+◌, ◌-◌, ◌*◌, ◌/◌, ◌^◌, ◌<◌, ◌≤◌, Bool, true, false, not, ◌&&◌, nat_lt, List, [], ◌∷◌, length, min, Option, Some, None, refl, sym, ◌∙◌, ap, subst, arith, inl, inr, ◌⊎◌}
+use Rattle.std.proofs.Common.{◌≡◌, ℕ, ◌+◌, ◌-◌, ◌*◌, ◌/◌, ◌<◌, ◌≤◌, true, false, nat_lt, List, [], ◌∷◌, Option, Some, None, refl, sym, ◌∙◌, ap, subst, arith, inl, inr}
 use Rattle.std.proofs.lemmas.Bool.{false≢true}
 use Rattle.std.proofs.Math.Nat.{mul-le-mul_right, mul_assoc}
 use Rattle.std.proofs.lemmas.Bool.Decides.{nat_tests}
-use Rattle.std.specs.Prelude.{IsTrue, MatchOption, ⊤, sum_by}
+use Rattle.std.specs.Prelude.{MatchOption, ⊤}
 use Rattle.std.specs.Option.{option_map_or}
-use Rattle.hpb_outside.specs.Faults.{Rose}
 use Rattle.flash_pages.specs.declared.chip.ChipOp.{ChipOp}
-use Rattle.flash_store.specs.Store.{StoreState}
 use Rattle.hpb_cdb.specs.declared.cdb.Cdb.{Cdb}
 use Rattle.hpb_cdb.specs.declared.cdb.Cdb.TheVariants.{TestReady, Read, Write, Capacity, Sync, HpbRead, ReadBuffer, Prefetch, InactOne, InactAll}
 use Rattle.upiu_wire.specs.Upiu.{upiu_at, upiu_out}
@@ -24,7 +22,7 @@ use Rattle.flat_unit.specs.History.{followed_by}
 use Rattle.flat_unit.specs.Queue.{at_rest}
 use Rattle.flat_unit.specs.Replays.{events_of, has_asked, enough, bound}
 use Rattle.flat_unit.specs.Sizes.{Sizes}
-use Rattle.flat_unit.specs.Stands.{First, Stands}
+use Rattle.flat_unit.specs.Stands.{Stands}
 use Rattle.flat_unit.specs.Task.{Task as Waiting}
 use Rattle.flat_unit.proofs.Steps.{stands_begun}
 use Rattle.flash_pages.specs.Unit.{unit_of, next_seq}
@@ -32,7 +30,7 @@ use Rattle.hpb_device.specs.declared.advance.Progress.{Progress}
 use Rattle.hpb_device.specs.declared.advance.Progress.TheVariants.{Shown, Asked, Programmed, Ended, Failed}
 use Rattle.hpb_device.specs.declared.device.Stepped.{Stepped}
 use Rattle.hpb_device.specs.declared.task.Task.{Task}
-use Rattle.hpb_device.specs.Advance.{Advances, Programs, failure_of}
+use Rattle.hpb_device.specs.Advance.{Advances, failure_of}
 use Rattle.hpb_device.specs.Calls.{GoesOn, Leaves, stepped}
 use Rattle.hpb_device.specs.Keeps.{KeepsTasks, IsTaskOf}
 use Rattle.hpb_device.specs.Standing.{DeviceStands, first_of, group_of, kept_of, programmed_of, sizes_of}
@@ -124,7 +122,6 @@ few_for s task (ReadBuffer region sub len) some = omega arith
 few_for s task (Prefetch lba id len) some = omega arith
 few_for s task (InactOne region) some = omega arith
 few_for s task InactAll some = omega arith
-
 
 few_by : (s : Sizes) (head : Option Task) (held : List ℕ) (tasks : List Waiting) → 1 ≤ s.erase_block → KeepsTasks head held tasks → option_map_or steps_of head 0 ≤ enough s tasks
 few_by s None held tasks some keeps = omega arith

@@ -1,5 +1,5 @@
 -- Replies that end no task.
-use Rattle.std.proofs.Common.{◌≡◌, ℕ, ◌^◌, ◌<◌, Bool, true, false, if◌then◌else◌, nat_lt, nat_le, not, ◌&&◌, List, [], ◌∷◌, length, Option, Some, None, Result, Ok, Err, refl, sym, ◌∙◌, ap, subst, arith}
+use Rattle.std.proofs.Common.{◌≡◌, ℕ, ◌^◌, ◌<◌, Bool, true, false, if◌then◌else◌, nat_lt, nat_le, not, ◌&&◌, List, [], ◌∷◌, length, Option, Some, None, Result, Ok, Err, refl, subst, arith}
 use Rattle.std.specs.List.{list_any}
 use Rattle.hpb_cdb.specs.declared.cdb.Cdb.{Cdb}
 use Rattle.hpb_cdb.specs.declared.fault.CdbFault.{CdbFault}
@@ -10,7 +10,7 @@ use Rattle.upiu_wire.specs.declared.fault.WireFault.TheVariants.{Short, Digest, 
 use Rattle.upiu_wire.specs.Upiu.{Upiu}
 use Rattle.upiu_wire.specs.WireFault.{number_of}
 use Rattle.flat_unit.specs.Command.{command_of, is_hpb, needed}
-use Rattle.flat_unit.specs.Reply.{has_tag, command_refusal, refusal_of_cdb, refusal_of_command, check_command, fault_rejection}
+use Rattle.flat_unit.specs.Reply.{has_tag, command_refusal, refusal_of_cdb, check_command, fault_rejection}
 use Rattle.flat_unit.specs.Senses.{no_unit, bad_field, unknown_opcode, sense_of_fault}
 use Rattle.flat_unit.specs.Sizes.{Sizes}
 use Rattle.flat_unit.specs.Task.{Task as Waiting}
@@ -44,6 +44,7 @@ command_harmless s on tasks v fits =
   where
     P : Upiu → Type 0
     P = IsHarmless s tasks
+
     by_cdb : (command : Result Cdb CdbFault) → list_any (has_tag v.tag) tasks ≡ false → (r : Upiu) → refusal_of_cdb s on v command ≡ Some r → P r
     by_cdb (Err fault) none = only P _ (check_harmless s tasks v (sense_of_fault fault) fits none)
     by_cdb (Ok command) none =

@@ -1,10 +1,10 @@
 -- A device that stands at a history stands at it with the bytes of the host and their answer.
-use Rattle.std.proofs.Common.{◌≡◌, ℕ, ◌+◌, ◌-◌, ◌^◌, ◌<◌, ◌≤◌, Bool, true, false, if◌then◌else◌, List, [], ◌∷◌, ◌++◌, length, drop, Option, Some, None, zero, suc, refl, sym, ◌∙◌, ap, subst, arith}
+use Rattle.std.proofs.Common.{◌≡◌, ℕ, ◌+◌, ◌-◌, ◌^◌, ◌<◌, ◌≤◌, true, List, [], ◌∷◌, ◌++◌, length, drop, Option, Some, None, zero, suc, refl, sym, ◌∙◌, ap, subst, arith}
 use Rattle.std.proofs.lemmas.List.{length-append, drop-append-le}
 use Rattle.flash_pages.specs.declared.chip.Geometry.{Geometry}
 use Rattle.hpb_cdb.specs.declared.limits.Limits.{Limits}
 use Rattle.upiu_wire.specs.declared.kind.Kind.{Kind}
-use Rattle.upiu_wire.specs.declared.kind.Kind.TheVariants.{NopOut, Command, DataOut, ManageRequest, QueryRequest, NopIn, Response, DataIn, ManageResponse, ReadyToTransfer, QueryResponse, Reject as RejectKind}
+use Rattle.upiu_wire.specs.declared.kind.Kind.TheVariants.{ManageRequest, QueryRequest}
 use Rattle.upiu_wire.specs.declared.fault.WireFault.{WireFault}
 use Rattle.upiu_wire.specs.Upiu.{Upiu, upiu_at, upiu_out}
 use Rattle.upiu_wire.specs.WireFault.{wire_fault_of}
@@ -16,7 +16,7 @@ use Rattle.flat_unit.specs.Reply.{reply_of, effects_of, effects_by_fault, effect
 use Rattle.flat_unit.specs.Senses.{wrong_data}
 use Rattle.flat_unit.specs.Sizes.{Sizes}
 use Rattle.flat_unit.specs.Sound.{answers_to, reply_events}
-use Rattle.flat_unit.specs.Stands.{First, Kept, Stands}
+use Rattle.flat_unit.specs.Stands.{First, Stands}
 use Rattle.flat_unit.specs.Task.{Task as Waiting}
 use Rattle.flat_unit.proofs.Steps.{stands_accepted, stands_taken, stands_answered, stands_refused}
 use Rattle.hpb_device.specs.declared.task.Task.{Task}
@@ -40,6 +40,7 @@ no_effects luns lim geometry tasks bytes = by_fault (wire_fault_of bytes)
     by_kind QueryRequest = refl
     by_kind ManageRequest = refl
     by_kind _ = refl
+
     by_fault : (fault : Option WireFault) → effects_by_fault (sizes luns lim geometry) true tasks bytes fault ≡ []
     by_fault (Some fault) = refl
     by_fault None = by_kind (upiu_at bytes).kind
@@ -58,21 +59,25 @@ stands_kept d task bytes lim luns first e none begun follows at =
     let empty : at.tasks ≡ [] = subst (λ (h : Option Task). KeepsTasks h d.held at.tasks) none at.keeps in
     let now = stands_accepted (sizes_of d) first (kept_of d at.tasks) e bytes task.command kept.silent kept.kind kept.command at.stands in
     let P : List Waiting → ℕ → Type 0 =
-        λ tasks programmed. Stands (sizes_of d) first (record (kept_of d tasks) { programmed = programmed }) (e ▹ Host bytes) in
+    λ tasks programmed. Stands (sizes_of d) first (record (kept_of d tasks) { programmed = programmed }) (e ▹ Host bytes) in
     let fresh : programmed_of d.head ≡ task.programmed =
-        ap programmed_of none ∙ ap (λ (t : Task). t.programmed) (sym begun.task_is) in
+    ap programmed_of none ∙ ap (λ (t : Task). t.programmed) (sym begun.task_is) in
     record {
       tasks = task_of v task.command ∷ [];
-      keeps = (task_of v task.command, record {
-        lun = ap (λ (t : Task). t.lun) (sym begun.task_is);
-        tag = ap (λ (t : Task). t.tag) (sym begun.task_is);
-        command = refl;
-        expected = ap (λ (t : Task). t.expected) (sym begun.task_is);
-        asked = ap (λ (t : Task). t.asked) (sym begun.task_is);
-        come = ap (λ (t : Task). t.come) (sym begun.task_is);
-        last = drop-nil (task.come - length {A = ℕ} []);
-        sent = ap (λ (t : Task). t.sent) (sym begun.task_is);
-      }, refl);
+      keeps = (
+        task_of v task.command,
+        record {
+          lun = ap (λ (t : Task). t.lun) (sym begun.task_is);
+          tag = ap (λ (t : Task). t.tag) (sym begun.task_is);
+          command = refl;
+          expected = ap (λ (t : Task). t.expected) (sym begun.task_is);
+          asked = ap (λ (t : Task). t.asked) (sym begun.task_is);
+          come = ap (λ (t : Task). t.come) (sym begun.task_is);
+          last = drop-nil (task.come - length {A = ℕ} []);
+          sent = ap (λ (t : Task). t.sent) (sym begun.task_is);
+        },
+        refl,
+      );
       stands = subst (λ (n : ℕ). P (task_of v task.command ∷ []) n) fresh (subst (λ (tasks : List Waiting). P tasks (programmed_of d.head)) (ap (λ (ts : List Waiting). ts ++ task_of v task.command ∷ []) empty) now);
     }
 
@@ -92,10 +97,13 @@ data_kept held segment kept task part at = record {
   where
     before : ℕ
     before = kept.come - length held
+
     same : (kept.come + length segment) - length (held ++ segment) ≡ before
     same = let e = length-append held segment in omega (arith, e, part)
+
     inside : before ≤ length task.come
     inside = omega (arith, at.come)
+
     last : drop ((kept.come + length segment) - length (held ++ segment)) (task.come ++ segment) ≡ held ++ segment
     last =
         ap (λ (n : ℕ). drop n (task.come ++ segment)) same
@@ -114,7 +122,7 @@ stands_with_data d kept bytes segment first e is part follows at =
     let silent : reply_of s true (task ∷ []) bytes ≡ None = subst (λ (ts : List Waiting). reply_of s true ts bytes ≡ None) alone taken.silent in
     let now = stands_taken s first (kept_of d (task ∷ [])) e bytes task [] silent taken.kind standing in
     let P : List ℕ → ℕ → Type 0 =
-        λ more programmed. Stands s first (record (kept_of d (with_data more task ∷ [])) { programmed = programmed }) (e ▹ Host bytes) in
+    λ more programmed. Stands s first (record (kept_of d (with_data more task ∷ [])) { programmed = programmed }) (e ▹ Host bytes) in
     record {
       tasks = with_data segment task ∷ [];
       keeps = (with_data segment task, data_kept d.held segment kept task part keeps.1, refl);
@@ -149,9 +157,9 @@ stands_without_head d kept bytes out residual first e is fits sent follows at =
     let standing : Stands s first (kept_of d (task ∷ [])) e = subst (λ (ts : List Waiting). Stands s first (kept_of d ts) e) alone at.stands in
     let end = check task.lun task.tag residual wrong_data in
     let same : reply_upiu (Check kept.lun kept.tag residual DataNotAsked) ≡ end =
-        ap (λ (lun : ℕ). check lun kept.tag residual wrong_data) (sym keeps.1.lun) ∙ ap (λ (tag : ℕ). check task.lun tag residual wrong_data) (sym keeps.1.tag) in
+    ap (λ (lun : ℕ). check lun kept.tag residual wrong_data) (sym keeps.1.lun) ∙ ap (λ (tag : ℕ). check task.lun tag residual wrong_data) (sym keeps.1.tag) in
     let answers : reply_of s true (task ∷ []) bytes ≡ Some end =
-        subst (λ (ts : List Waiting). reply_of s true ts bytes ≡ Some end) alone (follows at.tasks at.keeps ∙ ap (λ (u : Upiu). Some u) same) in
+    subst (λ (ts : List Waiting). reply_of s true ts bytes ≡ Some end) alone (follows at.tasks at.keeps ∙ ap (λ (u : Upiu). Some u) same) in
     let none = no_effects d.store.luns (limits_of d.shape) d.store.geometry (task ∷ []) bytes in
     let now = stands_refused s first (kept_of d (task ∷ [])) e bytes task [] residual answers none fits standing in
     record {

@@ -9,14 +9,13 @@ use Rattle.hpb_cdb.specs.Cdb.{needed_by}
 use Rattle.hpb_sense.specs.declared.sense.FixedSense.{FixedSense}
 use Rattle.upiu_wire.specs.Upiu.{Upiu}
 use Rattle.flat_unit.specs.Command.{command_of, needed, is_hpb}
-use Rattle.upiu_wire.specs.declared.kind.Kind.{Kind}
 use Rattle.upiu_wire.specs.declared.kind.Kind.TheVariants.{Command, DataOut}
 use Rattle.upiu_wire.specs.Upiu.{upiu_at}
 use Rattle.upiu_wire.specs.WireFault.{wire_fault_of}
-use Rattle.flat_unit.specs.Reply.{command_refusal, data_refusal, refusal_of_cdb, refusal_of_command, check_command, check, reply_of, reply_by_kind}
+use Rattle.flat_unit.specs.Reply.{command_refusal, data_refusal, refusal_of_cdb, check_command, check}
 use Rattle.flat_unit.proofs.History.{reply_to_kind}
 use Rattle.hpb_device.proofs.Harmless.{command_harmless, rejection_harmless}
-use Rattle.flat_unit.specs.Senses.{bad_field, wrong_data, sense_of_fault}
+use Rattle.flat_unit.specs.Senses.{bad_field, wrong_data}
 use Rattle.flat_unit.specs.Task.{Task as Waiting}
 use Rattle.hpb_device.specs.declared.task.Task.{Task}
 use Rattle.hpb_device.specs.declared.reply.Cause.{Cause}
@@ -26,7 +25,7 @@ use Rattle.hpb_device.specs.declared.accept.Verdict.{Verdict}
 use Rattle.hpb_device.specs.declared.accept.Verdict.TheVariants.{Keep, Data, Answer, End}
 use Rattle.hpb_device.specs.Accept.{IsCommandOf, IsJudged, IsUnopposed, IsDataVerdict, Follows, goes_on}
 use Rattle.hpb_device.specs.Keeps.{KeepsTasks, IsTaskOf}
-use Rattle.hpb_device.specs.Reply.{reply_upiu, cause_sense}
+use Rattle.hpb_device.specs.Reply.{reply_upiu}
 use Rattle.hpb_device.specs.Sizes.{sizes}
 
 pub none_kept : (head : Option Task) (held : List ℕ) (tasks : List Waiting) → head ≡ None → KeepsTasks head held tasks → tasks ≡ []

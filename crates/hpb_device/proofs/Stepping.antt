@@ -1,26 +1,24 @@
 -- A device that stands at a history stands at it with the events of one step.
-use Rattle.std.proofs.Common.{◌≡◌, ℕ, ◌+◌, ◌-◌, ◌*◌, ◌/◌, ◌^◌, ◌<◌, ◌≤◌, Bool, true, false, List, [], ◌∷◌, ◌++◌, length, drop, min, slice_range, set, Option, Some, None, zero, suc, refl, sym, ◌∙◌, ap, subst, arith, inl, inr, ◌⊎◌}
+use Rattle.std.proofs.Common.{◌≡◌, ℕ, ◌+◌, ◌-◌, ◌*◌, ◌/◌, ◌^◌, ◌<◌, ◌≤◌, true, List, [], ◌∷◌, length, drop, min, slice_range, Option, Some, None, refl, sym, ◌∙◌, ap, subst, arith, inl, inr, ◌⊎◌}
 use Rattle.std.proofs.Math.ListN.{drop_of_length-le}
 use Rattle.std.proofs.lemmas.List.{drop-drop}
 use Rattle.std.specs.Prelude.{slice_set, take}
 use Rattle.flash_pages.specs.declared.chip.ChipOp.{ChipOp}
 use Rattle.flash_pages.specs.declared.chip.ChipOp.TheVariants.{Read as ReadCall}
-use Rattle.flash_pages.specs.declared.chip.Geometry.{Geometry}
 use Rattle.flash_pages.specs.Place.{Place, IsPlace, index_of}
 use Rattle.flash_pages.specs.Unit.{block_of, unit_of, next_seq}
 use Rattle.flash_pages.proofs.Units.{get_or-unit_of-place}
 use Rattle.flash_pages.proofs.Programming.{length-unit_of, next_seq-programmed}
-use Rattle.flash_store.specs.Store.{StoreState, ProgramsBlock}
+use Rattle.flash_store.specs.Store.{StoreState}
 use Rattle.hpb_cdb.specs.declared.cdb.Cdb.{Cdb}
 use Rattle.hpb_cdb.specs.declared.cdb.Cdb.TheVariants.{TestReady, Read, Write, Capacity, Sync, HpbRead, ReadBuffer, Prefetch, InactOne, InactAll}
-use Rattle.upiu_wire.specs.Upiu.{Upiu, upiu_out}
-use Rattle.flat_unit.specs.declared.event.Event.{Event}
+use Rattle.upiu_wire.specs.Upiu.{upiu_out}
 use Rattle.flat_unit.specs.declared.event.Event.TheVariants.{Device, Failed as CallFailed}
 use Rattle.flat_unit.specs.Command.{is_write, needed}
-use Rattle.flat_unit.specs.Contents.{Block, block_at, next_place}
-use Rattle.upiu_wire.specs.declared.kind.Kind.TheVariants.{DataIn, ReadyToTransfer}
-use Rattle.upiu_wire.specs.Written.{data_upiu, transfer_upiu, response_upiu}
-use Rattle.flat_unit.specs.Queue.{with_sent, with_asked}
+use Rattle.flat_unit.specs.Contents.{block_at, next_place}
+use Rattle.upiu_wire.specs.declared.kind.Kind.TheVariants.{DataIn}
+use Rattle.upiu_wire.specs.Written.{data_upiu, response_upiu}
+use Rattle.flat_unit.specs.Queue.{with_sent}
 use Rattle.flat_unit.specs.History.{History, ◌▹◌}
 use Rattle.flat_unit.specs.Sends.{Data, Ask, Good as GoodAnswer, Check as CheckAnswer, Allows, IsPiece, upiu_of, asked_at_once}
 use Rattle.flat_unit.specs.Sizes.{Sizes}
@@ -49,8 +47,8 @@ use Rattle.hpb_device.specs.declared.reply.Reply.TheVariants.{Good}
 use Rattle.hpb_device.specs.declared.reply.Cause.{Cause}
 use Rattle.hpb_device.specs.declared.reply.Cause.TheVariants.{ReadFailed, WriteFailed, NoRoom}
 use Rattle.hpb_device.specs.Reply.{cause_sense}
-use Rattle.hpb_device.specs.Advance.{IsComplete, HasNoRoom, check, call_of, failure_of, IsSameStore, Shows, Asks, Programs, EndsWith, Fails, nth_place, first_block}
-use Rattle.hpb_device.specs.Keeps.{KeepsTasks, IsTaskOf}
+use Rattle.hpb_device.specs.Advance.{IsComplete, HasNoRoom, check, call_of, failure_of, IsSameStore, Shows, Asks, Programs, Fails, nth_place, first_block}
+use Rattle.hpb_device.specs.Keeps.{KeepsTasks}
 use Rattle.hpb_device.specs.Limits.{limits_of}
 use Rattle.hpb_device.specs.Reply.{reply_upiu}
 use Rattle.hpb_device.specs.Sizes.{sizes}
@@ -160,7 +158,7 @@ finish : (d now : DeviceState) (rest : Task) (tasks changed : List Waiting) (fir
     → Stands (sizes_of d) first (record (kept_of d changed) { programmed = programmed_of d.head }) e → DeviceStands now first e
 finish d now rest tasks changed first e same shape pages is programmed head keeps at =
     let moved : record (kept_of d changed) { programmed = programmed_of d.head } ≡ record (kept_of d tasks) { programmed = programmed_of d.head } =
-        ap (λ (ts : List Waiting). record (kept_of d ts) { programmed = programmed_of d.head }) is in
+    ap (λ (ts : List Waiting). record (kept_of d ts) { programmed = programmed_of d.head }) is in
     stands_now (sizes_of d) (record (kept_of d changed) { programmed = programmed_of d.head }) now tasks first e (sizes_same d now same shape)
     (moved ∙ kept_same d now tasks (programmed_of d.head) same pages (sym programmed ∙ sym (ap programmed_of head)))
     (subst (λ (h : Option Task). KeepsTasks h now.held tasks) (sym head) keeps) at
@@ -187,13 +185,13 @@ steps_shown d now task rest out first e was at ready shows pages held head same 
     let size : length block ≡ 4096 = ap (λ (q : Place). length (block_of d.store.pages q)) (sym here) ∙ shows.size in
     let unit = unit_of d.store.luns d.store.units d.store.pages in
     let stored : block ≡ block_at s unit p =
-        sym (get_or-unit_of-place d.store.luns d.store.units d.store.pages p inside) ∙ ap (λ (u : ℕ). Rattle.std.specs.Prelude.slice_index_or unit (index_of u p) []) ready.units in
+    sym (get_or-unit_of-place d.store.luns d.store.units d.store.pages p inside) ∙ ap (λ (u : ℕ). Rattle.std.specs.Prelude.slice_index_or unit (index_of u p) []) ready.units in
     let allows : Allows s t (Data block) = (subst (λ (c : Cdb). task.sent < Rattle.flat_unit.specs.Command.bytes_given s c) (sym is) (omega (arith, shows.more, given)), subst (λ (c : Cdb). IsPiece s t c block) (sym is) size) in
     let next : next_place s t task.command ≡ Some p = ap (next_place s t) is in
     let step = stands_shown s first (kept_of d (t ∷ [])) e t [] p block (fits_wire d task xs ready.ok.expected_fits) next placed allows stored (at_head d task first e at ready) in
     let now_task : Task = record task { sent = task.sent + 4096 } in
     let sent : out ≡ upiu_out (upiu_of s t (Data block)) =
-        shows.sent ∙ ap (λ (q : Place). upiu_out (data_upiu DataIn task.lun task.tag task.sent (block_of d.store.pages q))) here in
+    shows.sent ∙ ap (λ (q : Place). upiu_out (data_upiu DataIn task.lun task.tag task.sent (block_of d.store.pages q))) here in
     let changed : with_sent (length block) t ∷ [] ≡ flat now_task xs ∷ [] = ap (λ (k : ℕ). record t { sent = task.sent + k } ∷ []) size in
     let is_head : now.head ≡ Some now_task = head ∙ ap (λ (r : Task). Some r) shows.task_is in
     finish d now now_task (flat now_task xs ∷ []) (with_sent (length block) t ∷ []) first (e ▹ Device out) same shape pages changed
@@ -212,9 +210,9 @@ steps_asked d now task rest count out first e was at ready asks store held head 
     let command = is_written task.command task.asked asks.more in
     let is = command.2 in
     let taken : bytes_taken task.command ≡ Rattle.flat_unit.specs.Command.bytes_taken s task.command =
-        ap bytes_taken is ∙ sym (ap (Rattle.flat_unit.specs.Command.bytes_taken s) is) in
+    ap bytes_taken is ∙ sym (ap (Rattle.flat_unit.specs.Command.bytes_taken s) is) in
     let at_once : count ≡ asked_at_once s t task.command =
-        asks.counted ∙ (ap (λ (c : Cdb). min 32768 (bytes_taken c - task.asked)) is ∙ sym (ap (asked_at_once s t) is)) in
+    asks.counted ∙ (ap (λ (c : Cdb). min 32768 (bytes_taken c - task.asked)) is ∙ sym (ap (asked_at_once s t) is)) in
     let allows : Allows s t (Ask count) = (sym ready.goes ∙ sym ready.only.counted, subst (λ (n : ℕ). task.asked < n) taken asks.more, at_once) in
     let step = stands_asked s first (kept_of d (t ∷ [])) e t [] count (fits_wire d task xs ready.ok.expected_fits) allows (at_head d task first e at ready) in
     let now_task : Task = record task { asked = task.asked + count } in
@@ -253,7 +251,7 @@ steps_programmed d now task rest start first e was at ready programs held head s
     let taken : bytes_taken task.command ≡ 4096 * n = ap bytes_taken is in
     let kept : Kept = record (kept_of d (t ∷ [])) { programmed = k } in
     let standing : Stands s first kept e =
-        subst (λ (m : ℕ). Stands s first (record (kept_of d (t ∷ [])) { programmed = m }) e) (ap programmed_of was) (at_head d task first e at ready) in
+    subst (λ (m : ℕ). Stands s first (record (kept_of d (t ∷ [])) { programmed = m }) e) (ap programmed_of was) (at_head d task first e at ready) in
     let below : k < n = omega (arith, programs.more, ready.ok.come, ready.ok.asked, taken) in
     let blocks : k < length xs / 4096 = omega (arith, programs.more, ready.goes, ready.ok.whole_asked, ready.only.counted) in
     let come : k < blocks_of_head s (t ∷ []) = subst (λ (c : Cdb). k < whole_blocks s c xs) (sym is) blocks in
@@ -264,14 +262,14 @@ steps_programmed d now task rest start first e was at ready programs held head s
     let is_head : now.head ≡ Some now_task = head ∙ ap (λ (r : Task). Some r) programs.task_is in
     let place : ℕ → ℕ → ℕ = λ units lba_of. let p : Place = record { lun = task.lun; lba = lba_of + k } in index_of units p in
     let index : place s.units lba ≡ place d.store.units (first_block task.command) =
-        ap (λ (u : ℕ). place u lba) (sym ready.units) ∙ ap (λ (l : ℕ). place d.store.units l) (sym (ap first_block is)) in
+    ap (λ (u : ℕ). place u lba) (sym ready.units) ∙ ap (λ (l : ℕ). place d.store.units l) (sym (ap first_block is)) in
     let bytes = held_part xs d.held task.come start (4096 * k) ready.only.last ready.part programs.starts in
     let new_unit : slice_set unit (place s.units lba) (slice_range xs (4096 * k) (4096 * k + 4096)) ≡ unit_of now.store.luns now.store.units now.store.pages =
-        ap (λ (i : ℕ). slice_set unit i (slice_range xs (4096 * k) (4096 * k + 4096))) index
-        ∙ (ap (λ (block : List ℕ). slice_set unit (place d.store.units (first_block task.command)) block) bytes
-        ∙ (sym programs.unit ∙ (λ i. unit_of (sym same.luns i) (sym same.units i) now.store.pages))) in
+    ap (λ (i : ℕ). slice_set unit i (slice_range xs (4096 * k) (4096 * k + 4096))) index
+    ∙ (ap (λ (block : List ℕ). slice_set unit (place d.store.units (first_block task.command)) block) bytes
+    ∙ (sym programs.unit ∙ (λ i. unit_of (sym same.luns i) (sym same.units i) now.store.pages))) in
     let next : next_seq d.store.pages + 1 ≡ next_seq now.store.pages =
-        sym (ap next_seq programs.program.programmed ∙ next_seq-programmed d.store.pages programs.program.page _ _ programs.program.inside refl) in
+    sym (ap next_seq programs.program.programmed ∙ next_seq-programmed d.store.pages programs.program.page _ _ programs.program.inside refl) in
     let programmed : k + 1 ≡ programmed_of now.head = sym (ap programmed_of is_head) in
     stands_now s _ now (flat now_task xs ∷ []) first e (sizes_same d now same shape)
     (λ i. record { tasks = flat now_task xs ∷ []; on = true; unit = new_unit i; programmed = programmed i; next = next i })
@@ -359,8 +357,8 @@ steps_cut d now task come cause sense out first e is counted fits may has_cause 
     let s = sizes_of d in
     let step = stands_cut s first (kept_of d (t ∷ [])) e t [] sense (fits_wire d task come fits) may has_cause standing in
     let is_out : out ≡ upiu_out (upiu_of s t (CheckAnswer sense)) =
-        sent ∙ (ap (λ (f : FixedSense). upiu_out (response_upiu task.lun task.tag 0x02 (task.expected - task.sent - task.come) (fixed_out f))) is
-        ∙ ap (λ (n : ℕ). upiu_out (response_upiu task.lun task.tag 0x02 (task.expected - task.sent - n) (fixed_out sense))) (sym counted)) in
+    sent ∙ (ap (λ (f : FixedSense). upiu_out (response_upiu task.lun task.tag 0x02 (task.expected - task.sent - task.come) (fixed_out f))) is
+    ∙ ap (λ (n : ℕ). upiu_out (response_upiu task.lun task.tag 0x02 (task.expected - task.sent - n) (fixed_out sense))) (sym counted)) in
     let After : List ℕ → Type 0 = λ b. Stands s first (record (kept_of d []) { programmed = 0 }) (e ▹ Device b) in
     without d now first (e ▹ Device out) none pages same shape (subst After (sym is_out) step)
 
@@ -391,7 +389,7 @@ steps_failed d now task op reply out first e was at ready fails sent none pages 
     let s = sizes_of d in
     let standing = stands_failed s first (kept_of d (flat task xs ∷ [])) e op (at_head d task first e at ready) in
     let answered : (cause : Cause) → failure_of task.command ≡ cause → out ≡ upiu_out (reply_upiu (check task cause)) =
-        λ cause is. sent ∙ (ap (λ (r : Reply). upiu_out (reply_upiu r)) fails.answer ∙ ap (λ (c : Cause). upiu_out (reply_upiu (check task c))) is) in
+    λ cause is. sent ∙ (ap (λ (r : Reply). upiu_out (reply_upiu r)) fails.answer ∙ ap (λ (c : Cause). upiu_out (reply_upiu (check task c))) is) in
     elim (served_by d.store.units task.command ready.ok.served) [
       | inl read ↦
           let call : op ≡ ReadCall = fails.call ∙ ap call_of read.2 in

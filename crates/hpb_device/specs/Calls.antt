@@ -1,5 +1,5 @@
 -- What the calls of a device leave.
-use Rattle.std.specs.Prelude.{⊤, ◌≡◌, ◌⊎◌, ℕ, ◌+◌, List, ◌++◌, length, Option, Some, None, Bool, false, true}
+use Rattle.std.specs.Prelude.{◌≡◌, ◌⊎◌, ℕ, ◌+◌, List, ◌++◌, length, Option, Some, None, Bool, false, true}
 use Rattle.std.specs.Bool.{OnFalse}
 use Rattle.flash_pages.specs.declared.chip.ChipOp.{ChipOp}
 use Rattle.upiu_wire.specs.Upiu.{upiu_at, upiu_out}

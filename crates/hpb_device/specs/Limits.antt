@@ -1,5 +1,5 @@
 -- The limits within which the CDBs of a logical unit are read.
-use Rattle.std.specs.Prelude.{ℕ, ◌-◌, ◌^◌}
+use Rattle.std.specs.Prelude.{◌-◌, ◌^◌}
 use Rattle.hpb_cdb.specs.declared.limits.Limits.{Limits}
 use Rattle.region_state.specs.declared.shape.Shape.{Shape}
 

@@ -4,7 +4,6 @@ use Rattle.std.specs.Option.{option_map, option_map_or}
 use Rattle.flash_pages.specs.Unit.{unit_of, next_seq}
 use Rattle.flat_unit.specs.declared.event.Event.{Event}
 use Rattle.flat_unit.specs.declared.event.Event.TheVariants.{Device}
-use Rattle.flash_pages.specs.Place.{Place}
 use Rattle.flat_unit.specs.History.{History}
 use Rattle.flat_unit.specs.Replays.{Group}
 use Rattle.hpb_device.specs.declared.device.Stepped.{Stepped}

@@ -19,11 +19,14 @@ use upiu_wire::{Kind, UpiuView};
 
 /// The reasons of a REJECT past those of the layout.
 const KIND_NOT_SERVED: u8 = 7;
+
 const TAG_IN_USE: u8 = 8;
+
 const DATA_NOT_WAITED_FOR: u8 = 9;
 
 /// The opcodes that are served (SBC).
 const READ_10: u8 = 0x28;
+
 const WRITE_10: u8 = 0x2A;
 
 /// What comes of the bytes of the host.
@@ -169,12 +172,7 @@ fn goes_on(task: Task, view: &UpiuView<'_>) -> bool
 }
 
 /// What comes of a DATA OUT.
-fn judge_data<'a>(
-    limits: Limits,
-    luns: u8,
-    head: Option<Task>,
-    view: &UpiuView<'a>,
-) -> Verdict<'a>
+fn judge_data<'a>(limits: Limits, luns: u8, head: Option<Task>, view: &UpiuView<'a>) -> Verdict<'a>
     requires { IfSome head (IsTaskOk luns limits.units) }
     ensures verdict { IsVerdict limits luns head (upiu_at view.now) result }
     ensures follows { (held : List ℕ) (tasks : List Waiting) → KeepsTasks head held tasks

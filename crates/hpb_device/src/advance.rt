@@ -85,13 +85,7 @@ pub fn advance<F: Flash>(
 }
 
 /// Sends the next block of a READ(10), or answers it.
-fn show<F: Flash>(
-    store: &mut Store<F>,
-    task: Task,
-    lba: u32,
-    n: u16,
-    out: &mut UpiuBuf,
-) -> Progress
+fn show<F: Flash>(store: &mut Store<F>, task: Task, lba: u32, n: u16, out: &mut UpiuBuf) -> Progress
     requires task { IsTaskOk store.old.luns store.old.units task }
     requires command { task.command ≡ Cdb.Read lba n }
     ensures advances { (held : List ℕ) → Advances store.old store.new held held task result out.new }

@@ -113,12 +113,7 @@ impl<F: Flash> Device<F> {
     ///
     /// It fails, and hands the chip back, with `Geometry` where a number of the shape is outside its limits or the chip
     /// can't hold the units, and with `Memory` where there isn't enough memory.
-    pub fn new(
-        alloc: Global,
-        flash: F,
-        shape: Shape,
-        luns: u8,
-    ) -> Result<Device<F>, (F, NewFault)>
+    pub fn new(alloc: Global, flash: F, shape: Shape, luns: u8) -> Result<Device<F>, (F, NewFault)>
         requires { F.pages flash ≡ erased_chip (F.geometry flash) }
         ensures refused { IfErr result (λ refused. IsNewFault refused.1 (F.geometry flash) luns shape) }
         ensures begun { IfOk result (λ device. IsNewFault NewFault.Memory (F.geometry flash) luns shape) }

@@ -53,11 +53,30 @@ impl Cause {
 /// A UPIU that a device sends without data of a command.
 #[derive(Clone, Copy, Debug, PartialEq, Eq)]
 pub enum Reply {
-    NopIn { tag: u8 },
-    Reject { lun: u8, tag: u8, reason: u8 },
-    Good { lun: u8, tag: u8, residual: u32 },
-    TaskSetFull { lun: u8, tag: u8, residual: u32 },
-    Check { lun: u8, tag: u8, residual: u32, cause: Cause },
+    NopIn {
+        tag: u8,
+    },
+    Reject {
+        lun: u8,
+        tag: u8,
+        reason: u8,
+    },
+    Good {
+        lun: u8,
+        tag: u8,
+        residual: u32,
+    },
+    TaskSetFull {
+        lun: u8,
+        tag: u8,
+        residual: u32,
+    },
+    Check {
+        lun: u8,
+        tag: u8,
+        residual: u32,
+        cause: Cause,
+    },
 }
 
 /// Writes the UPIU of a reply.

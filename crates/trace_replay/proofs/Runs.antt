@@ -1,6 +1,5 @@
 -- A run goes on line by line, and how it ends.
 use Rattle.std.proofs.Common.{◌≡◌, ℕ, ◌+◌, List, [], ◌∷◌, ◌++◌, length, Option, Some, None, refl, sym, ◌∙◌, ap, subst, arith, inl, inr, ◌⊎◌, length-append}
-use Rattle.std.specs.Prelude.{map}
 use Rattle.std.proofs.lemmas.List.{append_assoc, append-nil, map-append}
 use Rattle.std.specs.Io.KnownBytes.{Appends, Keeps, prepend_known}
 use Rattle.flat_unit.specs.Print.{print}
@@ -8,7 +7,7 @@ use Rattle.flat_unit.specs.Replays.{Progress, LineTo}
 use Rattle.flat_unit.specs.Sizes.{Sizes}
 use Rattle.flat_unit.specs.Trace.{Line}
 use Rattle.flat_unit.proofs.History.{replays_more}
-use Rattle.hpb_device.specs.Standing.{sizes_of, DeviceStands, first_of}
+use Rattle.hpb_device.specs.Standing.{sizes_of}
 use Rattle.hpb_device.specs.State.{DeviceState}
 use Rattle.hpb_device.proofs.Going.{begins_standing}
 use Rattle.trace_text.specs.Grammar.{trace_line}
@@ -16,7 +15,7 @@ use Rattle.trace_text.specs.Lines.{TakesLine, EndsAt, WhereTold}
 use Rattle.trace_replay.specs.declared.status.Status.{Status}
 use Rattle.trace_replay.specs.declared.status.Status.TheVariants.{Done, BadLine, ReadFault, WriteFault, LongTrace, Usage, Memory, Geometry, ChipFault, BadImage, BadCapture}
 use Rattle.trace_replay.specs.Moments.{Standing, Leads, Cuts, IsServedLine}
-use Rattle.trace_replay.specs.Run.{TakesLines, Ran, RunIs, ServesLines, IsBadNext, IsCutNext, IsLeft, HasMore, LastIs, bad_line_text, long_text}
+use Rattle.trace_replay.specs.Run.{TakesLines, Ran, RunIs, ServesLines, IsBadNext, IsCutNext, HasMore, LastIs, bad_line_text, long_text}
 use Rattle.trace_replay.specs.Writes.{AppendsFront, HasWrittenUpTo}
 use Rattle.trace_replay.proofs.Written.{gathers_more, nothing_yet}
 

@@ -1,14 +1,14 @@
 -- Each call of the device leads from where it stands to where it stands then.
-use Rattle.std.proofs.Common.{◌≡◌, ℕ, suc, ◌+◌, ◌-◌, ◌<◌, ◌≤◌, Bool, true, false, List, [], ◌∷◌, ◌++◌, Option, Some, None, refl, sym, ◌∙◌, ap, subst, arith, inl, inr}
+use Rattle.std.proofs.Common.{◌≡◌, ℕ, suc, ◌+◌, ◌<◌, ◌≤◌, Bool, true, false, List, [], ◌∷◌, ◌++◌, Option, Some, None, refl, sym, ◌∙◌, ap, subst, arith, inr}
 use Rattle.std.specs.Prelude.{flat_map, IsTrue, if◌then◌else◌}
 use Rattle.std.specs.Bool.{OnFalse}
 use Rattle.flat_unit.specs.declared.event.Event.{Event}
 use Rattle.flat_unit.specs.declared.event.Event.TheVariants.{Host}
-use Rattle.flat_unit.specs.Causes.{failures, FailuresWithin, sense_code}
+use Rattle.flat_unit.specs.Causes.{sense_code}
 use Rattle.flat_unit.specs.History.{History, ◌▹◌, followed_by}
 use Rattle.flat_unit.specs.Print.{print, line_of}
 use Rattle.flat_unit.specs.Queue.{at_rest, on_after, tasks_after}
-use Rattle.flat_unit.specs.Replays.{Progress, Group, StepTo, StepsTo, LineTo, Drains, events_of, stepped, enough, has_asked, is_due, tasks_at, told, received, with_run, without_runs}
+use Rattle.flat_unit.specs.Replays.{Progress, Group, StepTo, StepsTo, LineTo, events_of, stepped, enough, has_asked, is_due, tasks_at, told, received, with_run, without_runs}
 use Rattle.flat_unit.specs.Sizes.{Sizes}
 use Rattle.flat_unit.specs.Sound.{answers_to}
 use Rattle.flat_unit.specs.Stands.{First}
@@ -30,7 +30,7 @@ use Rattle.hpb_device.specs.Standing.{DeviceStands, answer_events, first_of, gro
 use Rattle.hpb_device.specs.State.{DeviceState, AtRest, steps_left}
 use Rattle.hpb_device.proofs.Going.{going_fails, going_is_silent, going_moves_none, going_sizes, going_tasks, going_tells, resting_tasks, few_left}
 use Rattle.trace_replay.specs.Form.{is_one_block}
-use Rattle.trace_replay.specs.Moments.{Standing, Leads, Cuts, CutLineTo, IsServedLine, Refuses}
+use Rattle.trace_replay.specs.Moments.{Standing, Leads, Cuts, CutLineTo, Refuses}
 use Rattle.trace_replay.specs.Writes.{AppendsFront, HasWrittenUpTo}
 use Rattle.trace_replay.proofs.Written.{gathers_more}
 

@@ -1,22 +1,20 @@
 -- What a run promises of its events and of the chip, from where its device was left.
-use Rattle.std.proofs.Common.{◌≡◌, ℕ, ◌*◌, List, [], ◌∷◌, ◌++◌, Option, Some, None, refl, sym, ◌∙◌, ap, subst, arith, inl, inr}
-use Rattle.std.specs.Prelude.{Contains, replicate}
+use Rattle.std.proofs.Common.{◌≡◌, ℕ, ◌*◌, List, [], ◌∷◌, ◌++◌, Option, Some, None, ◌∙◌, ap, subst, inr}
+use Rattle.std.specs.Prelude.{Contains}
 use Rattle.std.specs.Io.KnownBytes.{prepend_known}
 use Rattle.std.proofs.KnownBytes.{prepend_known-nil}
 use Rattle.trace_text.specs.Lines.{EndsAt, WhereTold}
 use Rattle.flash_pages.specs.declared.chip.Geometry.{Geometry}
-use Rattle.flash_pages.specs.Chip.{Page, erased_chip, zeros}
-use Rattle.flash_pages.specs.Place.{Place, IsPlace}
+use Rattle.flash_pages.specs.Chip.{Page, erased_chip}
 use Rattle.flash_pages.specs.Unit.{unit_of, next_seq}
 use Rattle.flash_pages.proofs.Units.{unit_of-erased}
 use Rattle.flash_pages.proofs.Programming.{next_seq-erased}
 use Rattle.flat_unit.specs.declared.event.Event.TheVariants.{Reset}
-use Rattle.flat_unit.specs.Causes.{Caused, FailuresWithin}
-use Rattle.flat_unit.specs.Contents.{Block, block_at, candidates}
-use Rattle.flat_unit.specs.History.{History, ◌▹◌}
+use Rattle.flat_unit.specs.Causes.{FailuresWithin}
+use Rattle.flat_unit.specs.Contents.{block_at, candidates}
+use Rattle.flat_unit.specs.History.{◌▹◌}
 use Rattle.flat_unit.specs.Replays.{Progress}
 use Rattle.flat_unit.specs.Sizes.{Sizes}
-use Rattle.flat_unit.specs.Sound.{Sound}
 use Rattle.flat_unit.specs.Stands.{First, Stands}
 use Rattle.flat_unit.proofs.Steps.{handed_back}
 use Rattle.hpb_device.specs.Limits.{limits_of}
@@ -24,7 +22,7 @@ use Rattle.hpb_device.specs.Sizes.{sizes}
 use Rattle.hpb_device.specs.Standing.{first_of, kept_of, sizes_of}
 use Rattle.hpb_device.specs.State.{DeviceState}
 use Rattle.trace_replay.specs.Moments.{Standing}
-use Rattle.trace_replay.specs.Run.{IsLeft, IsPlanned, ProgramIs, Ran, RunIs}
+use Rattle.trace_replay.specs.Run.{IsLeft, IsPlanned, ProgramIs, RunIs}
 use Rattle.trace_replay.specs.Transcript.{IsTranscript, sizes_on, whole_chip, zero_unit}
 use Rattle.trace_replay.specs.declared.status.Status.{Status}
 use Rattle.trace_replay.specs.declared.status.Status.TheVariants.{Done, BadLine, ReadFault, WriteFault, LongTrace, Usage, Memory, Geometry as BadGeometry, ChipFault, BadImage, BadCapture}

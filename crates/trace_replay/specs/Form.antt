@@ -1,5 +1,5 @@
 -- The UPIUs of a trace that are served: a command about one block, and the data of one block.
-use Rattle.std.specs.Prelude.{ℕ, Bool, false, ◌&&◌, ◌==◌, List, length, is_none, Result, Ok, Err}
+use Rattle.std.specs.Prelude.{ℕ, Bool, false, ◌&&◌, ◌==◌, List, length, is_none, Result, Ok}
 use Rattle.hpb_cdb.specs.declared.cdb.Cdb.{Cdb}
 use Rattle.hpb_cdb.specs.declared.cdb.Cdb.TheVariants.{Read, Write}
 use Rattle.hpb_cdb.specs.declared.fault.CdbFault.{CdbFault}

@@ -1,6 +1,5 @@
 -- Where a device and a text stand while a trace is replayed.
 use Rattle.std.specs.Prelude.{◌≡◌, ℕ, ◌≤◌, List, [], Option, Result, MatchResult, IsTrue}
-use Rattle.flash_store.specs.Store.{StoreState}
 use Rattle.flat_unit.specs.Causes.{FailuresWithin}
 use Rattle.flat_unit.specs.Print.{print}
 use Rattle.flat_unit.specs.Replays.{Progress, StepsTo, LineTo, enough, tasks_at, without_runs}

@@ -1,5 +1,5 @@
 -- What a run promises of the events that it prints, and of the chip that it hands back.
-use Rattle.std.specs.Prelude.{◌≡◌, ⊤, ◌⊎◌, ℕ, ◌-◌, ◌*◌, ◌^◌, min, List, [], ◌∷◌, replicate, Contains, Some}
+use Rattle.std.specs.Prelude.{◌≡◌, ⊤, ℕ, ◌-◌, ◌*◌, ◌^◌, min, List, [], ◌∷◌, replicate, Contains, Some}
 use Rattle.flash_pages.specs.declared.chip.Geometry.{Geometry}
 use Rattle.flash_pages.specs.Chip.{Page, zeros}
 use Rattle.flash_pages.specs.Place.{Place, IsPlace}

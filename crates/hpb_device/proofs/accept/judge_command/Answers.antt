@@ -1,12 +1,9 @@
 use Rattle.std.proofs.Common.{◌≡◌, ℕ, ◌<◌, nat_lt, Bool, true, false, List, Some, None, Ok, sym, ◌∙◌, ap, subst, arith, rules, refl}
 use Rattle.std.proofs.lemmas.Bool.Decides.{nat_tests}
 use Rattle.flat_unit.specs.Command.{command_of}
-use Rattle.flat_unit.specs.Task.{Task as Waiting}
-use Rattle.flat_unit.specs.Reply.{command_refusal, check_command}
-use Rattle.flat_unit.specs.Senses.{bad_field}
 use Rattle.hpb_cdb.specs.Cdb.{needed_by}
 use Rattle.upiu_wire.specs.Upiu.{upiu_at}
-use Rattle.hpb_device.specs.Accept.{IsJudged, IsCommandOf}
+use Rattle.hpb_device.specs.Accept.{IsCommandOf}
 use Rattle.hpb_device.specs.Sizes.{sizes}
 use Rattle.hpb_device.proofs.Replies.{none_kept, by_length, by_fault}
 use Rattle.hpb_device.proofs.accept.judge_command.Goals as goal

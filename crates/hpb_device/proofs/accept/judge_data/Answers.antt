@@ -1,6 +1,4 @@
 use Rattle.std.proofs.Common.{◌≡◌, ℕ, ◌<◌, true, false, List, Some, None, sym, ◌∙◌, ap, subst, arith, rules, refl}
-use Rattle.flat_unit.specs.Task.{Task as Waiting}
-use Rattle.flat_unit.specs.Reply.{data_refusal}
 use Rattle.upiu_wire.specs.Upiu.{upiu_at}
 use Rattle.hpb_device.specs.declared.task.Task.{Task}
 use Rattle.hpb_device.specs.Accept.{goes_on}

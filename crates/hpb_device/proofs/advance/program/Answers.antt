@@ -1,4 +1,4 @@
-use Rattle.std.proofs.Common.{◌≡◌, ℕ, ◌+◌, ◌-◌, ◌*◌, List, length, slice_range, slice_set, arith, sym, rules, refl, subst}
+use Rattle.std.proofs.Common.{◌≡◌, ℕ, ◌+◌, ◌-◌, ◌*◌, length, slice_range, slice_set, arith, sym, rules, refl, subst}
 use Rattle.flash_pages.specs.Place.{Place, index_of}
 use Rattle.flash_pages.specs.Unit.{unit_of}
 use Rattle.flash_store.specs.Store.{ProgramsBlock}
@@ -20,13 +20,17 @@ returns-in-Ok-Done-clause-advances g c =
     let Written : ℕ → Type 0 = λ lba. ProgramsBlock c.args.store.now.pages (at lba) bytes c.write_step.new.self.pages in
     let written : Written c.args.lba = search rules in
     let Unit : ℕ → Type 0 =
-        λ lba. unit_of c.args.store.now.luns c.args.store.now.units c.write_step.new.self.pages
-        ≡ slice_set (unit_of c.args.store.now.luns c.args.store.now.units c.args.store.now.pages) (index_of c.args.store.now.units (at lba)) bytes in
+    λ lba. unit_of c.args.store.now.luns c.args.store.now.units c.write_step.new.self.pages
+    ≡ slice_set (unit_of c.args.store.now.luns c.args.store.now.units c.args.store.now.pages) (index_of c.args.store.now.units (at lba)) bytes in
     let unit : Unit c.args.lba = search rules in
-    λ out. (start, record {
-      more = c.requires.more;
-      starts = omega (arith, c.requires.held.rest);
-      program = subst Written (sym moves.first) written;
-      unit = subst Unit (sym moves.first) unit;
-      task_is = refl;
-    }, refl)
+    λ out. (
+      start,
+      record {
+        more = c.requires.more;
+        starts = omega (arith, c.requires.held.rest);
+        program = subst Written (sym moves.first) written;
+        unit = subst Unit (sym moves.first) unit;
+        task_is = refl;
+      },
+      refl,
+    )

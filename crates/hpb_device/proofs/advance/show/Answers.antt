@@ -1,4 +1,4 @@
-use Rattle.std.proofs.Common.{◌≡◌, ℕ, ◌+◌, ◌/◌, List, length, arith, sym, rules, refl, ap, ◌∙◌}
+use Rattle.std.proofs.Common.{ℕ, ◌+◌, ◌/◌, List, length, arith, sym, rules, refl, ap, ◌∙◌}
 use Rattle.flash_pages.specs.Place.{Place}
 use Rattle.flash_pages.specs.Unit.{block_of}
 use Rattle.upiu_wire.specs.Upiu.{upiu_out}
@@ -17,7 +17,7 @@ returns-in-Ok-clause-advances g c =
     let task = c.args.task in
     let moves = reads c.args.store.now.luns c.args.store.now.units c.args.lba c.args.n task c.requires.task c.requires.command in
     let block_at : ℕ → List ℕ =
-        λ lba. let p : Place = record { lun = task.lun; lba = lba + task.sent / 4096 } in block_of c.args.store.now.pages p in
+    λ lba. let p : Place = record { lun = task.lun; lba = lba + task.sent / 4096 } in block_of c.args.store.now.pages p in
     let block = c.in-Ok.ensures.block ∙ ap block_at (sym moves.first) in
     λ held. (
       record {

@@ -1,4 +1,4 @@
-use Rattle.std.proofs.Common.{◌≡◌, ◌++◌, ◌≤◌, List, ℕ, Option, [], refl, rules, inl, inr, arith, sym, ◌∙◌}
+use Rattle.std.proofs.Common.{◌++◌, [], refl, rules, inl, arith}
 use Rattle.hpb_outside.specs.Faults.{Rose}
 use Rattle.trace_replay.specs.Run.{long_text}
 use Rattle.trace_replay.proofs.Runs.{ends_wordless, front_wordless, last_long, more_of, rose_since}

@@ -1,4 +1,4 @@
-use Rattle.std.proofs.Common.{◌≡◌, ◌++◌, ◌≤◌, List, ℕ, refl, rules, inl, inr, arith, sym, ◌∙◌, decimal, codes}
+use Rattle.std.proofs.Common.{◌≡◌, ◌++◌, refl, rules, inr, arith, decimal, codes}
 use Rattle.hpb_outside.specs.Faults.{Rose}
 use Rattle.trace_replay.specs.Run.{bad_line_text}
 use Rattle.trace_replay.proofs.Runs.{ends_wordless, front_longer, rose_since, three_more}

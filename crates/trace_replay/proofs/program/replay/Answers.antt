@@ -1,4 +1,4 @@
-use Rattle.std.proofs.Common.{◌≡◌, ◌++◌, ◌+◌, ◌≤◌, List, ℕ, Option, None, [], refl, rules, inl, inr, arith, sym, ◌∙◌}
+use Rattle.std.proofs.Common.{◌≡◌, None, refl, arith}
 use Rattle.flat_unit.specs.Print.{print}
 use Rattle.hpb_outside.specs.Faults.{Rose}
 use Rattle.trace_replay.proofs.Runs.{ran_begins, ran_more, rose_since, ends_done, ends_unread, ends_bad, ends_last, ends_unwritten, last_since}

@@ -1,4 +1,4 @@
-use Rattle.std.proofs.Common.{◌≡◌, refl, rules, inl, inr, arith, sym, ◌∙◌, List, ℕ}
+use Rattle.std.proofs.Common.{◌≡◌, rules}
 use Rattle.std.specs.Prelude.{map, string_bytes}
 use Rattle.trace_replay.specs.Run.{IsPlanned}
 use Rattle.trace_replay.specs.Words.{IsReplay}

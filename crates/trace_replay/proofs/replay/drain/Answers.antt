@@ -1,8 +1,7 @@
-use Rattle.std.proofs.Common.{◌≡◌, ◌<◌, ◌+◌, ℕ, List, [], false, refl, arith, rules}
+use Rattle.std.proofs.Common.{refl, arith}
 use Rattle.std.proofs.lemmas.Result.{err_from_is_err_and}
 use Rattle.flat_unit.specs.Print.{print}
 use Rattle.hpb_device.specs.State.{AtRest}
-use Rattle.hpb_device.specs.declared.device.Waits.TheVariants.{Step}
 use Rattle.hpb_device.proofs.Going.{at_rest_of}
 use Rattle.trace_replay.proofs.Standing.{Stepping, stepping_of, draining_begins, draining_written, draining_goes_on, draining_is_cut, draining_ends}
 use Rattle.trace_replay.proofs.replay.drain.Goals as goal

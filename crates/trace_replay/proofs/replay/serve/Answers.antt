@@ -1,4 +1,3 @@
-use Rattle.std.proofs.Common.{◌≡◌, refl, rules, sym, ◌∙◌, ap}
 use Rattle.trace_replay.proofs.Standing.{blank_leads}
 use Rattle.trace_replay.proofs.replay.serve.Goals as goal
 

@@ -1,4 +1,4 @@
-use Rattle.std.proofs.Common.{length, ◌≡◌, ℕ, List, Option, Some, None, refl, rules, sym, ◌∙◌, ap, inl, inr}
+use Rattle.std.proofs.Common.{length, ◌≡◌, Some, None, refl, rules, inl, inr}
 use Rattle.flat_unit.specs.Print.{print}
 use Rattle.trace_text.specs.Grammar.{line_said, trace_line}
 use Rattle.trace_replay.proofs.Turns.{turn_served, whole_room, long_text_of}

@@ -1,5 +1,3 @@
-use Rattle.std.proofs.Common.{rules, subst, sym, List, ℕ}
-use Rattle.trace_replay.specs.Writes.{KeepsText}
 use Rattle.trace_replay.proofs.Written.{flushed}
 use Rattle.trace_replay.proofs.replay.write_before_read.Goals as goal
 

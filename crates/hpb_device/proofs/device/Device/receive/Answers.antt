@@ -1,15 +1,15 @@
-use Rattle.std.proofs.Common.{◌≡◌, ℕ, ◌+◌, ◌≤◌, true, List, [], ◌++◌, length, Option, Some, None, refl, inr, sym, ap, subst, ◌∙◌, rules, arith}
+use Rattle.std.proofs.Common.{◌≡◌, ◌+◌, ◌≤◌, true, List, ◌++◌, length, Option, Some, refl, inr, sym, ap, subst, ◌∙◌}
 use Rattle.std.specs.Option.{IsSome, IfSome}
 use Rattle.hpb_device.specs.Task.{HoldsData}
 use Rattle.flat_unit.specs.Reply.{reply_of}
 use Rattle.flat_unit.specs.Sizes.{Sizes}
 use Rattle.flat_unit.specs.Task.{Task as Waiting}
-use Rattle.upiu_wire.specs.Upiu.{upiu_at, upiu_out}
+use Rattle.upiu_wire.specs.Upiu.{upiu_out}
 use Rattle.hpb_device.specs.declared.task.Task.{Task}
 use Rattle.hpb_device.specs.declared.reply.Reply.{Reply}
 use Rattle.hpb_device.specs.declared.reply.Reply.TheVariants.{Check}
 use Rattle.hpb_device.specs.declared.reply.Cause.TheVariants.{DataNotAsked}
-use Rattle.hpb_device.specs.Accept.{IsBegun, IsKept, IsTaken, IsAnswered}
+use Rattle.hpb_device.specs.Accept.{IsKept, IsTaken, IsAnswered}
 use Rattle.hpb_device.specs.Calls.{TakesData}
 use Rattle.hpb_device.specs.Keeps.{KeepsTasks}
 use Rattle.hpb_device.specs.Reply.{reply_upiu}
@@ -27,7 +27,7 @@ returns-in-Keep-clause-stands g c = λ first e at.
     let before : DeviceStands d first e = subst (λ (x : DeviceState). DeviceStands x first e) (sym c.self.view_is) at in
     let sized = sizes_are d c.limits_of-limits.result s.luns c.limits_of-limits.ensures c.self.invariant.luns_served in
     let kept : (tasks : List Waiting) → KeepsTasks d.head d.held tasks → IsKept (sizes_of d) tasks c.args.bytes.now c.in-Keep.task =
-        λ tasks keeps. subst (λ (z : Sizes). IsKept z tasks c.args.bytes.now c.in-Keep.task) sized (c.in-Keep.ensures.follows s.store.geometry d.held tasks keeps) in
+    λ tasks keeps. subst (λ (z : Sizes). IsKept z tasks c.args.bytes.now c.in-Keep.task) sized (c.in-Keep.ensures.follows s.store.geometry d.held tasks keeps) in
     let now = stands_kept d c.in-Keep.task c.args.bytes.now c.limits_of-limits.result s.luns first e c.in-Keep.ensures.verdict.0 c.in-Keep.ensures.verdict.1 kept before in
     rw c.clear.ensures.items now
 
@@ -39,7 +39,7 @@ returns-in-Data-clause-stands g c = λ first e at.
     let before : DeviceStands d first e = subst (λ (x : DeviceState). DeviceStands x first e) (sym c.self.view_is) at in
     let sized = sizes_are d c.limits_of-limits.result s.luns c.limits_of-limits.ensures c.self.invariant.luns_served in
     let taken : (tasks : List Waiting) → KeepsTasks d.head d.held tasks → IsTaken (sizes_of d) tasks c.args.bytes.now segment =
-        λ tasks keeps. subst (λ (z : Sizes). IsTaken z tasks c.args.bytes.now segment) sized (c.in-Data.ensures.follows s.store.geometry d.held tasks keeps) in
+    λ tasks keeps. subst (λ (z : Sizes). IsTaken z tasks c.args.bytes.now segment) sized (c.in-Data.ensures.follows s.store.geometry d.held tasks keeps) in
     let takes_it = takes c.limits_of-limits.result s.luns s.head _ c.in-Data.segment c.in-Data.ensures.verdict in
     let was : c.args.self.now.head ≡ Some takes_it.0 = ap (λ (x : DeviceState). x.head) (sym c.self.view_is) ∙ takes_it.1 in
     let data_taken : TakesData c.args.self.now c.take_data.new.self segment = c.take_data.ensures.taken (subst (λ (h : Option Task). IsSome h) (sym was) refl) in
@@ -49,8 +49,8 @@ returns-in-Data-clause-stands g c = λ first e at.
     let part : length d.held ≤ task.come = holds.part in
     let now = stands_with_data d task c.args.bytes.now segment first e is part taken before in
     let same = device_is d c.take_data.new.self (Some (record task { come = task.come + length segment })) (d.held ++ segment)
-        (c.take_data.ensures.store ∙ ap (λ (x : DeviceState). x.store) (sym c.self.view_is)) (c.take_data.ensures.shape ∙ ap (λ (x : DeviceState). x.shape) (sym c.self.view_is))
-        data_taken.kept (data_taken.held ∙ ap (λ (x : DeviceState). x.held ++ segment) (sym c.self.view_is)) in
+    (c.take_data.ensures.store ∙ ap (λ (x : DeviceState). x.store) (sym c.self.view_is)) (c.take_data.ensures.shape ∙ ap (λ (x : DeviceState). x.shape) (sym c.self.view_is))
+    data_taken.kept (data_taken.held ∙ ap (λ (x : DeviceState). x.held ++ segment) (sym c.self.view_is)) in
     stands_same _ _ _ _ same now
 
 pub returns-in-Answer-clause-stands : goal.returns-in-Answer-clause-stands
@@ -60,7 +60,7 @@ returns-in-Answer-clause-stands g c = λ first e at.
     let before : DeviceStands d first e = subst (λ (x : DeviceState). DeviceStands x first e) (sym c.self.view_is) at in
     let sized = sizes_are d c.limits_of-limits.result s.luns c.limits_of-limits.ensures c.self.invariant.luns_served in
     let answered : (tasks : List Waiting) → KeepsTasks d.head d.held tasks → IsAnswered (sizes_of d) tasks c.args.bytes.now c.in-Answer.reply =
-        λ tasks keeps. subst (λ (z : Sizes). IsAnswered z tasks c.args.bytes.now c.in-Answer.reply) sized (c.in-Answer.ensures.follows s.store.geometry d.held tasks keeps) in
+    λ tasks keeps. subst (λ (z : Sizes). IsAnswered z tasks c.args.bytes.now c.in-Answer.reply) sized (c.in-Answer.ensures.follows s.store.geometry d.held tasks keeps) in
     let now = stands_with_reply d c.args.bytes.now c.in-Answer.reply c.put_reply.new.out first e c.put_reply.ensures answered before in
     stands_same _ _ _ _ c.self.view_is now
 
@@ -92,8 +92,8 @@ returns-in-End-clause-stands g c = λ first e at.
     let sized = sizes_are d c.limits_of-limits.result s.luns c.limits_of-limits.ensures c.self.invariant.luns_served in
     let ended = ends c.limits_of-limits.result s.luns s.head _ c.in-End.reply c.in-End.ensures.verdict in
     let answers : (tasks : List Waiting) → KeepsTasks d.head d.held tasks → reply_of (sizes_of d) true tasks c.args.bytes.now ≡ Some (reply_upiu (Check ended.0.lun ended.0.tag ended.3.0 DataNotAsked)) =
-        λ tasks keeps. subst (λ (z : Sizes). reply_of z true tasks c.args.bytes.now ≡ Some (reply_upiu c.in-End.reply)) sized (c.in-End.ensures.follows s.store.geometry d.held tasks keeps)
-        ∙ ap (λ (r : Reply). Some (reply_upiu r)) ended.3.2 in
+    λ tasks keeps. subst (λ (z : Sizes). reply_of z true tasks c.args.bytes.now ≡ Some (reply_upiu c.in-End.reply)) sized (c.in-End.ensures.follows s.store.geometry d.held tasks keeps)
+    ∙ ap (λ (r : Reply). Some (reply_upiu r)) ended.3.2 in
     let sent = c.put_reply-in-End.ensures ∙ ap (λ (r : Reply). upiu_out (reply_upiu r)) ended.3.2 in
     stands_without_head d ended.0 c.args.bytes.now c.put_reply-in-End.new.out ended.3.0 first e ended.1 ended.3.1 sent answers before
 

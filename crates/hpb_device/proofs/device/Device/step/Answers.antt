@@ -1,12 +1,10 @@
-use Rattle.std.proofs.Common.{◌≡◌, ℕ, List, Option, Some, None, refl, sym, ◌∙◌, subst, ap, arith, rules}
+use Rattle.std.proofs.Common.{◌≡◌, Some, None, refl, sym, rules}
 use Rattle.hpb_device.specs.declared.advance.Progress.TheVariants.{Shown, Asked, Programmed, Ended, Failed}
-use Rattle.hpb_device.specs.declared.task.Task.{Task}
-use Rattle.hpb_device.specs.Standing.{DeviceStands}
 use Rattle.hpb_device.specs.State.{DeviceState}
 use Rattle.hpb_device.proofs.Receiving.{stands_same}
 use Rattle.hpb_device.proofs.Stepping.{steps}
 use Rattle.std.specs.Option.{IfSome}
-use Rattle.hpb_device.specs.Task.{IsTaskOk, HoldsData}
+use Rattle.hpb_device.specs.Task.{IsTaskOk}
 use Rattle.hpb_device.proofs.device.Device.step.Goals as goal
 
 pub returns-in-Shown-clause-stands : goal.returns-in-Shown-clause-stands

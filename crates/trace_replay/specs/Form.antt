@@ -1,14 +1,18 @@
--- The UPIUs of a trace that are served: a command about one block, and the data of one block.
-use Rattle.std.specs.Prelude.{ℕ, Bool, false, ◌&&◌, ◌==◌, List, length, is_none, Result, Ok}
+-- The UPIUs of a trace that are served: a command about one block, the data of one block, NOP OUT, and bytes that are no
+-- UPIU.
+use Rattle.std.specs.Prelude.{ℕ, Bool, false, ◌&&◌, ◌==◌, List, length, Option, Some, None, Result, Ok, if◌then◌else◌}
 use Rattle.hpb_cdb.specs.declared.cdb.Cdb.{Cdb}
 use Rattle.hpb_cdb.specs.declared.cdb.Cdb.TheVariants.{Read, Write}
 use Rattle.hpb_cdb.specs.declared.fault.CdbFault.{CdbFault}
 use Rattle.hpb_cdb.specs.declared.limits.Limits.{Limits}
 use Rattle.hpb_cdb.specs.Read.{cdb_of}
 use Rattle.upiu_wire.specs.declared.kind.Kind.{Kind}
-use Rattle.upiu_wire.specs.declared.kind.Kind.TheVariants.{Command, DataOut}
+use Rattle.upiu_wire.specs.declared.kind.Kind.TheVariants.{Command, DataOut, NopOut}
 use Rattle.upiu_wire.specs.Upiu.{Upiu, upiu_at}
+use Rattle.upiu_wire.specs.declared.fault.WireFault.{WireFault}
 use Rattle.upiu_wire.specs.WireFault.{wire_fault_of}
+use Rattle.trace_replay.specs.declared.form.Form.{Form}
+use Rattle.trace_replay.specs.declared.form.Form.TheVariants.{Block, Answered, Other}
 use Rattle.flash_pages.specs.declared.chip.TheConstants.{BLOCK_BYTES}
 
 -- limits inside which every LBA is
@@ -27,5 +31,17 @@ moves_one_block v Command = (v.lun == 0) && ((v.first == BLOCK_BYTES) && names_o
 moves_one_block v DataOut = (v.lun == 0) && ((v.first == 0) && ((v.count == BLOCK_BYTES) && (length v.segment == BLOCK_BYTES)))
 moves_one_block v _ = false
 
-abbrev pub is_one_block : List ℕ → Bool
-is_one_block bytes = is_none (wire_fault_of bytes) && moves_one_block (upiu_at bytes) (upiu_at bytes).kind
+-- what a UPIU of a kind is to a replay
+abbrev pub form_by_kind : Upiu → Kind → Form
+form_by_kind v NopOut = Answered
+form_by_kind v Command = if moves_one_block v Command then Block else Other
+form_by_kind v DataOut = if moves_one_block v DataOut then Block else Other
+form_by_kind v _ = Other
+
+-- bytes that are no UPIU are answered as such
+abbrev pub form_by_fault : Option WireFault → Upiu → Form
+form_by_fault (Some fault) v = Answered
+form_by_fault None v = form_by_kind v v.kind
+
+abbrev pub form_of : List ℕ → Form
+form_of bytes = form_by_fault (wire_fault_of bytes) (upiu_at bytes)

@@ -1,5 +1,5 @@
 -- Where a device and a text stand while a trace is replayed.
-use Rattle.std.specs.Prelude.{◌≡◌, ℕ, ◌≤◌, List, [], Option, Result, MatchResult, IsTrue}
+use Rattle.std.specs.Prelude.{◌≡◌, ℕ, ◌≤◌, List, [], Option, Result, MatchResult}
 use Rattle.flat_unit.specs.Causes.{FailuresWithin}
 use Rattle.flat_unit.specs.Print.{print}
 use Rattle.flat_unit.specs.Replays.{Progress, StepsTo, LineTo, enough, tasks_at, without_runs}
@@ -13,7 +13,10 @@ use Rattle.hpb_device.specs.Standing.{DeviceStands, first_of, sizes_of}
 use Rattle.hpb_device.specs.State.{DeviceState}
 use Rattle.trace_replay.specs.declared.replay.Turn.{Turn}
 use Rattle.trace_replay.specs.declared.replay.Turn.TheVariants.{Served, Bad, Unwritten}
-use Rattle.trace_replay.specs.Form.{is_one_block}
+use Rattle.flat_unit.specs.declared.event.Event.{Event}
+use Rattle.trace_replay.specs.declared.form.Form.{Form}
+use Rattle.trace_replay.specs.declared.form.Form.TheVariants.{Block, Answered, Other}
+use Rattle.trace_replay.specs.Form.{form_of}
 use Rattle.trace_replay.specs.Transcript.{NeverDead}
 use Rattle.trace_replay.specs.Writes.{AppendsFront, HasWrittenUpTo}
 
@@ -27,9 +30,15 @@ pub record Standing (start now : DeviceState) (p : Progress) : Type 0 where
   pub unmoved : moves p.events ≡ 0
   pub alive : NeverDead p.events
 
--- a line that is served, where the replay has come so far: the UPIU has one of the forms, and nothing answers it at once
+-- bytes of a form that is served, where the replay has come so far: nothing answers those of a block at once
+abbrev pub IsServedForm : Form → (answers : List Event) → Type 0
+IsServedForm Block answers = answers ≡ []
+IsServedForm Answered answers = Unit {0}
+IsServedForm Other answers = ⊥
+
+-- a line that is served
 abbrev pub IsServedLine : Sizes → Progress → Line → Type 0
-IsServedLine s p (Upiu bytes) = IsTrue (is_one_block bytes) × (answers_to s (on_after p.events) (tasks_at s p) bytes ≡ [])
+IsServedLine s p (Upiu bytes) = IsServedForm (form_of bytes) (answers_to s (on_after p.events) (tasks_at s p) bytes)
 IsServedLine s p Drain = Unit {0}
 IsServedLine s p Blank = Unit {0}
 IsServedLine s p _ = ⊥

@@ -2,7 +2,7 @@ ghost use Rattle.std.specs.Prelude.{◌≡◌};
 ghost use Rattle.hpb_cdb.specs.Read.{cdb_of};
 ghost use Rattle.upiu_wire.specs.Upiu.{upiu_at};
 ghost use Rattle.upiu_wire.specs.declared.kind.Kind.TheVariants.{Command, DataOut};
-ghost use Rattle.trace_replay.specs.Form.{any_limits, is_one_block, moves_one_block, names_one_block};
+ghost use Rattle.trace_replay.specs.Form.{any_limits, form_of, moves_one_block, names_one_block};
 
 use flash_pages::BLOCK_BYTES;
 use hpb_cdb::{Cdb, Limits};
@@ -10,18 +10,34 @@ use upiu_wire::{Kind, UpiuView};
 
 const BLOCK: u32 = BLOCK_BYTES as u32;
 
-/// Whether the bytes have a form that is served: a READ(10) or a WRITE(10) of one block of unit 0, or the DATA OUT of a
-/// whole block of it.
-pub(crate) fn is_served(bytes: &[u8]) -> bool
-    ensures { result ≡ is_one_block bytes.now }
+/// What the bytes of a line are to a replay.
+#[derive(Clone, Copy, Debug, PartialEq, Eq)]
+pub(crate) enum Form {
+    /// READ(10) or WRITE(10) of one block of unit 0, or the DATA OUT of a whole block of it.
+    Block,
+    /// NOP OUT, or bytes that are no UPIU: they are answered at once, and change nothing else.
+    Answered,
+    /// They aren't served.
+    Other,
+}
+
+/// The form of these bytes.
+pub(crate) fn form_of(bytes: &[u8]) -> Form
+    ensures { result ≡ form_of bytes.now }
 {
     let Ok(view) = UpiuView::parse(bytes) else {
-        return false;
+        return Form::Answered;
     };
-    match view.kind() {
+    let moves_one_block = match view.kind() {
+        Kind::NopOut => return Form::Answered,
         Kind::Command => is_block_command(&view),
         Kind::DataOut => is_whole_block(&view),
         _ => false,
+    };
+    if moves_one_block {
+        Form::Block
+    } else {
+        Form::Other
     }
 }
 

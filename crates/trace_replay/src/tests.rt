@@ -387,17 +387,13 @@ fn is_refused(alloc: Global, words: &str) -> Result<bool, Fail> {
 fn other_lines_are_refused(rt: HostRuntime) -> Result<(), Fail> {
     for line in [
         "U 0",
-        "U 00",
         "U 0g",
-        "U",
         "S 1",
         "C 1",
         "R",
         "X",
         "d",
         "D\r",
-        // A NOP OUT.
-        "U 00000008 z z z z z z z",
         // Two blocks, and none.
         "U 01400001 z z 00002000 28000000 00050000 02000000 z",
         "U 01400001 z z 00000000 28000000 00050000 00000000 z",
@@ -413,11 +409,56 @@ fn other_lines_are_refused(rt: HostRuntime) -> Result<(), Fail> {
         "U 01000001 z z z z z z z",
         // Data that no task waits for.
         "U 02000002 z 00001000 z 00001000 z z z block",
-        // An EHS.
-        "U 01400001 z 01000000 00001000 28000000 00050000 01000000 z",
+        // A QUERY REQUEST.
+        "U 16000001 z z z z z z z",
     ] {
         assert!(rt; is_refused(rt.alloc(), line)?, "{line}");
     }
+    Ok(())
+}
+
+/// Bytes that are no UPIU, by the first condition that they break, and a NOP OUT.
+const ANSWERED: [(&str, &str); 8] = [
+    (
+        "U z z z z z z z 000000",
+        "< 3f000000 00000100 z 01000000 z z z z",
+    ),
+    (
+        "U 41000000 z 01000000 z z z z z",
+        "< 3f000000 00000100 z 02000000 z z z z",
+    ),
+    (
+        "U 01000000 z 01000000 z z z z z",
+        "< 3f000000 00000100 z 03000000 z z z z",
+    ),
+    (
+        "U z z 00000001 z z z z z",
+        "< 3f000000 00000100 z 04000000 z z z z",
+    ),
+    (
+        "U 3e000000 z z z z z z z",
+        "< 3f000000 00000100 z 05000000 z z z z",
+    ),
+    (
+        "U 01000000 01000000 z z z z z z",
+        "< 3f000000 00000100 z 06000000 z z z z",
+    ),
+    (
+        "U 3e000207 z z z z z z z",
+        "< 3f000207 00000100 z 05000000 z z z z",
+    ),
+    ("U 00000008 z z z z z z z", "< 20000008 z z z z z z z"),
+];
+
+/// They are answered while a write waits for its data, which is as before.
+#[test]
+fn what_changes_nothing_is_answered(rt: HostRuntime) -> Result<(), Fail> {
+    let mut script = Script::new(rt.alloc());
+    script.add(&WRITTEN[..2])?;
+    script.add(&ANSWERED)?;
+    script.add(&WRITTEN[2..])?;
+    script.add(&READ_BACK)?;
+    assert!(rt; is_printed(rt.alloc(), &script, Outside::faultless(rt.alloc()))?);
     Ok(())
 }
 
@@ -492,10 +533,13 @@ fn words_name_a_chip(rt: HostRuntime) -> Result<(), Fail> {
 
 /// A chip of 2 erase blocks of 2 pages, which is smaller than those that are served. Each of its calls fails.
 #[derive(Drop)]
-struct LittleChip;
+struct LittleChip {
+    /// Whether page 0 is shown.
+    shown: bool,
+}
 
 impl Flash for LittleChip {
-    ghost use Rattle.std.specs.Prelude.{◌-◌, ◌^◌, ℕ, List, None, map, replicate};
+    ghost use Rattle.std.specs.Prelude.{◌-◌, ◌^◌, ℕ, List, Some, None, map, replicate, if◌then◌else◌};
     ghost use Rattle.std.proofs.Common.{refl};
     ghost use Rattle.std.proofs.lemmas.List.{length-replicate};
     ghost use Rattle.flash_pages.specs.declared.slot.Slot.{Slot};
@@ -506,7 +550,7 @@ impl Flash for LittleChip {
     ghost pages = { λ _. map page_of
         (replicate 4 (record { bytes = replicate 4096 0; spare = None; whole = length-replicate {A = ℕ} 4096 0 })) };
 
-    ghost shown_page = { λ _. None };
+    ghost shown_page = { λ c. if c.shown then Some 0 else None };
 
     ghost calls = { λ _. 2 ^ 64 - 1 };
 
@@ -523,6 +567,7 @@ impl Flash for LittleChip {
     }
 
     fn read(&mut self, _page: u32) -> Result<(), Failed> {
+        self.shown = false;
         Err(Failed)
     }
 
@@ -531,10 +576,12 @@ impl Flash for LittleChip {
     }
 
     fn program(&mut self, _page: u32, _bytes: &[u8], _spare: Spare) -> Result<(), Failed> {
+        self.shown = false;
         Err(Failed)
     }
 
     fn erase(&mut self, _block: u32) -> Result<(), Failed> {
+        self.shown = false;
         Err(Failed)
     }
 }
@@ -546,7 +593,13 @@ fn a_chip_that_is_too_small_is_refused(rt: HostRuntime) -> Result<(), Fail> {
     words.push(String::from_str(alloc, "replay")?)?;
     let mut source = MemSource::new(Vec::new(alloc), Vec::new(alloc), Vec::new(alloc));
     let mut sink = MemSink::new(alloc, ROOM, Vec::new(alloc))?;
-    let outcome = run(alloc, &words, &mut source, &mut sink, LittleChip);
+    let outcome = run(
+        alloc,
+        &words,
+        &mut source,
+        &mut sink,
+        LittleChip { shown: false },
+    );
     assert!(rt; outcome.status == Status::Geometry);
     assert_eq!(rt; sink.bytes(), b"E geometry\n".as_slice());
     Ok(())

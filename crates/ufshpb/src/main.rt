@@ -3,9 +3,8 @@
 
 use hpb_outside::{StdSink, StdSource};
 use std::alloc::Global;
-use std::env;
-use std::io;
 use std::process::ExitCode;
+use std::{env, io};
 use trace_replay::{Status, chip_of, run};
 
 fn main(rt: HostRuntime) -> ExitCode {

@@ -1,37 +1,67 @@
-use Rattle.std.proofs.Common.{refl, rules}
-use Rattle.std.specs.Prelude.{IsTrue}
-use Rattle.flat_unit.specs.Print.{print}
+use Rattle.std.proofs.Common.{◌≡◌, ◌++◌, ◌+◌, ◌*◌, ◌≤◌, List, ℕ, length, refl, rules, sym, ◌∙◌, ap, arith, length-append}
+use Rattle.flat_unit.specs.Print.{print, line_of}
+use Rattle.flat_unit.specs.declared.event.Event.TheVariants.{Host, Device}
+use Rattle.hpb_device.specs.declared.device.Sent.{Sent}
 use Rattle.hpb_device.specs.declared.device.Sent.TheVariants.{Nothing, Upiu as UpiuSent}
-use Rattle.trace_replay.specs.Form.{is_one_block}
+use Rattle.trace_replay.specs.declared.form.Form.TheVariants.{Block, Other}
+use Rattle.trace_replay.specs.Form.{form_of}
+use Rattle.std.proofs.lemmas.Bool.{false≢true}
+use Rattle.trace_text.proofs.Lengths.{length-Host}
 use Rattle.trace_replay.proofs.Written.{cut_of, whole_of}
-use Rattle.trace_replay.proofs.Standing.{Received, kept_leads, answers_of, answered_refuses}
+use Rattle.trace_replay.proofs.Standing.{Received, answered_refuses, other_form, served_leads}
 use Rattle.trace_replay.proofs.replay.receive_line.Goals as goal
+
+upiu_not_nothing : UpiuSent ≡ Nothing → ⊥
+upiu_not_nothing same = cc
+
+pub returns-in-Other-clause-turn : goal.returns-in-Other-clause-turn
+returns-in-Other-clause-turn g c start before p at printed = other_form start c.args.device.now before _ _ c.args.bytes.now p (search rules) printed
 
 pub returns-then-is_err-clause-turn : goal.returns-then-is_err-clause-turn
 returns-then-is_err-clause-turn g c start before p at printed =
     record { moment = p; reached = refl; standing = at; printed = cut_of c.make_room.result _ _ (search rules) (c.make_room.ensures.text before (print p.events) printed) }
 
-pub returns-in-Nothing-clause-turn : goal.returns-in-Nothing-clause-turn
-returns-in-Nothing-clause-turn g c start before p at printed =
-    let got : Received c.args.device.now c.receive.new.self c.args.bytes.now c.receive.new.out Nothing = record {
-      stands = c.in-Nothing.ensures.stands;
-      answers = c.in-Nothing.ensures.answers;
-      store = c.receive.ensures.store;
-      shape = c.receive.ensures.shape;
+pub returns-then-is_refused-clause-turn : goal.returns-then-is_refused-clause-turn
+returns-then-is_refused-clause-turn g c start before p at printed =
+    let refused = c.is_refused.ensures.0 c.if-is_refused.true in
+    let got : Received c.args.device.now c.receive-sent.new.self c.args.bytes.now c.receive-sent.new.out c.receive-sent.result = record {
+      stands = c.receive-sent.ensures.stands;
+      answers = c.receive-sent.ensures.answers;
+      store = c.receive-sent.ensures.store;
+      shape = c.receive-sent.ensures.shape;
     } in
-    let form : IsTrue (is_one_block c.args.bytes.now) = search rules in
-    let whole = whole_of c.make_room.result _ _ (search rules) (c.make_room.ensures.text before (print p.events) printed) in (
-      (form, answers_of start c.args.device.now c.receive.new.self c.args.bytes.now c.receive.new.out Nothing p at got),
-      kept_leads start c.args.device.now c.receive.new.self before _ _ _ c.args.bytes.now c.receive.new.out p at got whole c.push_upiu.ensures,
-    )
+    answered_refuses start c.args.device.now c.receive-sent.new.self before _ _ c.args.bytes.now c.receive-sent.new.out p (sym c.form_of-form.ensures ∙ refused.0) at (rw refused.1 at got)
+    (whole_of c.make_room.result _ _ (search rules) (c.make_room.ensures.text before (print p.events) printed))
+
+pub push_upiu-requires-in-Upiu : goal.push_upiu-requires-in-Upiu
+push_upiu-requires-in-Upiu g c =
+    let room : length c.make_room.new.output + 139520 ≤ 524288 = search rules in
+    let line = length-Host c.args.bytes.now in
+    let now : length c.push_upiu.new.self ≡ length c.make_room.new.output + length (line_of (Host c.args.bytes.now)) = ap length c.push_upiu.ensures ∙ length-append c.make_room.new.output (line_of (Host c.args.bytes.now)) in
+    omega (arith, room, line, now, c.requires, c.bytes.ensures.fits)
 
 pub returns-in-Upiu-clause-turn : goal.returns-in-Upiu-clause-turn
 returns-in-Upiu-clause-turn g c start before p at printed =
-    let got : Received c.args.device.now c.receive.new.self c.args.bytes.now c.receive.new.out UpiuSent = record {
-      stands = c.in-Upiu.ensures.stands;
-      answers = c.in-Upiu.ensures.answers;
-      store = c.receive.ensures.store;
-      shape = c.receive.ensures.shape;
+    let got : Received c.args.device.now c.receive-sent.new.self c.args.bytes.now c.receive-sent.new.out c.receive-sent.result = record {
+      stands = c.receive-sent.ensures.stands;
+      answers = c.receive-sent.ensures.answers;
+      store = c.receive-sent.ensures.store;
+      shape = c.receive-sent.ensures.shape;
     } in
+    let free : (c.form_of-form.result ≡ Block) × (c.receive-sent.result ≡ UpiuSent) → ⊥ = λ both. false≢true (sym c.if-is_refused.false ∙ c.is_refused.ensures.1 both) in
     let whole = whole_of c.make_room.result _ _ (search rules) (c.make_room.ensures.text before (print p.events) printed) in
-    answered_refuses start c.args.device.now c.receive.new.self before _ _ c.args.bytes.now c.receive.new.out p at got whole
+    served_leads start c.args.device.now c.receive-sent.new.self before _ _ c.push_upiu.new.self c.push_upiu-in-Upiu.new.self c.args.bytes.now c.receive-sent.new.out c.receive-sent.result c.form_of-form.result p
+    (sym c.form_of-form.ensures) c.in_default.not-Other free at got whole c.push_upiu.ensures (λ sends. search rules) (λ none. absurd (upiu_not_nothing (sym c.in-Upiu.is ∙ none)))
+
+pub returns-in_default-sent-clause-turn : goal.returns-in_default-sent-clause-turn
+returns-in_default-sent-clause-turn g c start before p at printed =
+    let got : Received c.args.device.now c.receive-sent.new.self c.args.bytes.now c.receive-sent.new.out c.receive-sent.result = record {
+      stands = c.receive-sent.ensures.stands;
+      answers = c.receive-sent.ensures.answers;
+      store = c.receive-sent.ensures.store;
+      shape = c.receive-sent.ensures.shape;
+    } in
+    let free : (c.form_of-form.result ≡ Block) × (c.receive-sent.result ≡ UpiuSent) → ⊥ = λ both. false≢true (sym c.if-is_refused.false ∙ c.is_refused.ensures.1 both) in
+    let whole = whole_of c.make_room.result _ _ (search rules) (c.make_room.ensures.text before (print p.events) printed) in
+    served_leads start c.args.device.now c.receive-sent.new.self before _ _ c.push_upiu.new.self c.push_upiu.new.self c.args.bytes.now c.receive-sent.new.out c.receive-sent.result c.form_of-form.result p
+    (sym c.form_of-form.ensures) c.in_default.not-Other free at got whole c.push_upiu.ensures (λ sends. absurd (c.in_default-sent.not-Upiu sends)) (λ none. refl)

@@ -140,3 +140,173 @@ fn line_that_is_too_long(rt: HostRuntime) -> Result<(), Fail> {
     assert!(rt; reader.has_more(&mut source)?);
     Ok(())
 }
+
+/// What is shown of a line.
+fn shown(alloc: Global, line: &str) -> Result<Option<Vec<u8>>, Fail> {
+    let line = line.as_bytes();
+    if LINE_BYTES < line.len() {
+        return Ok(None);
+    }
+    let mut room = vec![in alloc; 0; 65_600]?;
+    let mut out = vec![in alloc; b'.'; SHOWN_BYTES]?;
+    match put_shown(line, &mut room, &mut out) {
+        Some(count) => Ok(Some(out[..count].to_vec(alloc)?)),
+        None => Ok(None),
+    }
+}
+
+fn check_shown(rt: &impl Abort, alloc: Global, line: &str, text: &str) -> Result<(), Fail> {
+    let Some(shown) = shown(alloc, line)? else {
+        return Err(Fail::new("nothing is shown"));
+    };
+    assert_eq!(rt; shown.as_slice(), text.as_bytes(), "{line}");
+    Ok(())
+}
+
+#[test]
+fn kinds_that_are_shown(rt: HostRuntime) -> Result<(), Fail> {
+    // The mark and bytes 0 to 19 of each UPIU. The others are 0.
+    for (front, text) in [
+        (
+            "> 0000000900000000000000000000000000000000",
+            "NOP_OUT lun=0 tag=9",
+        ),
+        (
+            "> 020003ff00000000000000000000100000000004",
+            "DATA_OUT lun=3 tag=255 off=4096 n=4",
+        ),
+        (
+            "> 0400010200010000000000000000000000000000",
+            "TM_REQUEST lun=1 tag=2",
+        ),
+        (
+            "> 1600000300010000000000000000000000000000",
+            "QUERY_REQUEST lun=0 tag=3",
+        ),
+        (
+            "< 2000000900000000000000000000000000000000",
+            "NOP_IN lun=0 tag=9",
+        ),
+        (
+            "< 2100000600000000000000000000000000000000",
+            "RESPONSE lun=0 tag=6 status=00 resid=0",
+        ),
+        (
+            "< 2200030a0000000000000000ffffffff00010000",
+            "DATA_IN lun=3 tag=10 off=4294967295 n=65536",
+        ),
+        (
+            "< 2400010200000000000000000000000000000000",
+            "TM_RESPONSE lun=1 tag=2",
+        ),
+        (
+            "< 3100000500000000000000000000000000002000",
+            "RTT lun=0 tag=5 off=0 n=8192",
+        ),
+        (
+            "< 3600000300010000000000000000000000000000",
+            "QUERY_RESPONSE lun=0 tag=3",
+        ),
+        (
+            "< 3f00000600000100000000000500000000000000",
+            "REJECT lun=0 tag=6 reason=5",
+        ),
+        (
+            "U 3F00000600000100000000000100000000000000",
+            "REJECT lun=0 tag=6 reason=1",
+        ),
+        ("U 0500000000000000000000000000000000000000", "BAD 5"),
+        ("U 4000000000000000000000000000000000000000", "BAD 2"),
+    ] {
+        let line = format!(in rt.alloc(); "{front}000000000000000000000000")?;
+        let text = format!(in rt.alloc(); "{text}\n")?;
+        check_shown(&rt, rt.alloc(), &line, &text)?;
+    }
+    Ok(())
+}
+
+#[test]
+fn commands_that_are_shown(rt: HostRuntime) -> Result<(), Fail> {
+    for (cdb, text) in [
+        ("00000000000000000000000000000000", "READY"),
+        ("2800000000ff00000800000000000000", "READ lba=255 n=8"),
+        (
+            "2a00ffffffff00ffff00000000000000",
+            "WRITE lba=4294967295 n=65535",
+        ),
+        ("25000000000000000000000000000000", "CAPACITY"),
+        ("35000000000000000100000000000000", "SYNC lba=0 n=1"),
+        (
+            "f800000100000123456789ABCDEF0203",
+            "HPB_READ lba=65536 entry=0123456789abcdef n=2 id=3",
+        ),
+        (
+            "f9010002000301000000000000000000",
+            "READ_BUFFER region=2 sub=3 len=65536",
+        ),
+        (
+            "fa020000001007001000000000000000",
+            "PREFETCH lba=16 id=7 len=16",
+        ),
+        ("fa010004000000000000000000000000", "INACT region=4"),
+        ("fa030000000000000000000000000000", "INACT_ALL"),
+        ("ff000000000000000000000000000000", "bad opcode"),
+        ("fa040000000000000000000000000000", "bad field"),
+        ("fa020000001000001000000000000000", "bad field"),
+    ] {
+        let line = format!(in rt.alloc(); "U 01000207000000000000000000001000{cdb}")?;
+        let text = format!(in rt.alloc(); "COMMAND lun=2 tag=7 exp=4096 {text}\n")?;
+        check_shown(&rt, rt.alloc(), &line, &text)?;
+    }
+    Ok(())
+}
+
+#[test]
+fn senses_that_are_shown(rt: HostRuntime) -> Result<(), Fail> {
+    // The length of the segment, and the segment with its padding.
+    for (len, segment, text) in [
+        ("0000", "", ""),
+        ("0001", "00000000", " bad"),
+        ("0003", "00020000", " bad"),
+        ("0002", "00000000", " other"),
+        (
+            "0014",
+            "0012700005000000000a00000000240f00000000",
+            " sense=5/24/0f",
+        ),
+        (
+            "0014",
+            "0012801001020202000300040005000600070100",
+            " hint op=1 lun=2 act=3:4,5:6 inact=7,256",
+        ),
+        (
+            "0014",
+            "0012801001000101ffff00090005000600070100",
+            " hint op=1 lun=0 act=65535:9 inact=7",
+        ),
+        (
+            "0014",
+            "0012801002000000000000000000000000000000",
+            " hint op=2 lun=0 act= inact=",
+        ),
+    ] {
+        let front = format!(in rt.alloc(); "< 21000006000001be0000{len}00001000")?;
+        let line = format!(in rt.alloc(); "{front}00000000000000000000000000000000{segment}")?;
+        let text = format!(in rt.alloc(); "RESPONSE lun=0 tag=6 status=be resid=4096{text}\n")?;
+        check_shown(&rt, rt.alloc(), &line, &text)?;
+    }
+    Ok(())
+}
+
+#[test]
+fn other_lines_that_are_shown(rt: HostRuntime) -> Result<(), Fail> {
+    check_shown(&rt, rt.alloc(), "U ", "BAD 1\n")?;
+    for line in ["", "# U 00", "D", "U", "U00", " > 00", "T steps=1", "X 7"] {
+        let text = format!(in rt.alloc(); "{line}\n")?;
+        check_shown(&rt, rt.alloc(), line, &text)?;
+    }
+    for line in ["U 0", "> 0g", "< 00 ", "U  00"] {
+        assert!(rt; shown(rt.alloc(), line)?.is_none(), "{line}");
+    }
+    Ok(())
+}

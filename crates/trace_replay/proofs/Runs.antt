@@ -23,7 +23,7 @@ use Rattle.trace_replay.proofs.Written.{gathers_more, nothing_yet}
 abbrev pub StandsAndPrinted : (start now : DeviceState) (before written : Option (List ℕ)) (gathered : List ℕ) → Progress → Type 0
 StandsAndPrinted start now before written gathered p = Standing start now p × HasWrittenUpTo before written (print p.events) gathered
 
-takes_more : (left : Option (List ℕ)) (texts : List (List ℕ)) (mid now : Option (List ℕ)) (text : List ℕ) → TakesLines left texts mid → WhereTold (TakesLine text) mid now → TakesLines left (texts ++ text ∷ []) now
+pub takes_more : (left : Option (List ℕ)) (texts : List (List ℕ)) (mid now : Option (List ℕ)) (text : List ℕ) → TakesLines left texts mid → WhereTold (TakesLine text) mid now → TakesLines left (texts ++ text ∷ []) now
 takes_more left [] mid now text same takes = (now, subst (λ (from : Option (List ℕ)). WhereTold (TakesLine text) from now) same takes, refl)
 takes_more left (t ∷ texts) mid now text taken takes = (taken.0, taken.1, takes_more taken.0 texts mid now text taken.2 takes)
 

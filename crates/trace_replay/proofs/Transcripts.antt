@@ -23,6 +23,7 @@ use Rattle.hpb_device.specs.Standing.{first_of, kept_of, sizes_of}
 use Rattle.hpb_device.specs.State.{DeviceState}
 use Rattle.trace_replay.specs.Moments.{Standing}
 use Rattle.trace_replay.specs.Run.{IsLeft, IsPlanned, ProgramIs, RunIs}
+use Rattle.trace_replay.specs.Showing.{ShowIs, ShowProgramIs}
 use Rattle.trace_replay.specs.Transcript.{IsTranscript, sizes_on, whole_chip, zero_unit}
 use Rattle.trace_replay.specs.declared.status.Status.{Status}
 use Rattle.trace_replay.specs.declared.status.Status.TheVariants.{Done, BadLine, ReadFault, WriteFault, LongTrace, Usage, Memory, Geometry as BadGeometry, ChipFault, BadImage, BadCapture}
@@ -142,3 +143,23 @@ run_of_chip words geometry start now pages back faults faults_back same left lef
     program_of words geometry good same left left_now w w_now source sink limit status planned
     (run_from_source (sizes_on geometry) good left left_now w w_now held_now source sink limit status
     (run_shows (sizes_on geometry) (IsLeft start now) good left (prepend_known held_now left_now) w w_now source sink limit status (λ p at. left_transcript start now geometry pages back faults faults_back p fresh is_back is_faults at) run1))
+
+-- what was shown of a text that comes from a source alone
+pub show_from_source : (left left_now w w_now : Option (List ℕ)) (held held_now : List ℕ) (source sink : Type 0) (limit : ℕ) (status : Status) → held ≡ []
+    → ShowIs (prepend_known held left) (prepend_known held_now left_now) w w_now source sink limit status → ShowProgramIs left left_now w w_now source sink limit status
+show_from_source left left_now w w_now held held_now source sink limit status none is =
+    show_by_status left left_now w w_now held_now source sink limit status
+    (subst (λ (l : Option (List ℕ)). ShowIs l (prepend_known held_now left_now) w w_now source sink limit status) (ap (λ (l : List ℕ). prepend_known l left) none ∙ prepend_known-nil left) is)
+  where
+    show_by_status : (left left_now w w_now : Option (List ℕ)) (held : List ℕ) (source sink : Type 0) (limit : ℕ) (status : Status) → ShowIs left (prepend_known held left_now) w w_now source sink limit status → ShowProgramIs left left_now w w_now source sink limit status
+    show_by_status left left_now w w_now held source sink limit Done (mid, n, text, shows, all, ends) = (mid, n, text, shows, all, ends_in_source mid held left_now ends)
+    show_by_status left left_now w w_now held source sink limit (BadLine number) is = is
+    show_by_status left left_now w w_now held source sink limit ReadFault is = is
+    show_by_status left left_now w w_now held source sink limit LongTrace is = is
+    show_by_status left left_now w w_now held source sink limit WriteFault is = is
+    show_by_status left left_now w w_now held source sink limit Usage is = absurd is
+    show_by_status left left_now w w_now held source sink limit Memory is = absurd is
+    show_by_status left left_now w w_now held source sink limit BadGeometry is = absurd is
+    show_by_status left left_now w w_now held source sink limit ChipFault is = absurd is
+    show_by_status left left_now w w_now held source sink limit (BadImage fault) is = absurd is
+    show_by_status left left_now w w_now held source sink limit (BadCapture offset fault) is = absurd is

@@ -1,6 +1,7 @@
 pub mod Form
 pub mod Moments
 pub mod Run
+pub mod Showing
 pub mod Status
 pub mod Transcript
 pub mod Words

@@ -5,6 +5,7 @@ mod form;
 mod output;
 mod program;
 mod replay;
+mod show;
 mod status;
 mod words;
 

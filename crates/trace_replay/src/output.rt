@@ -1,7 +1,10 @@
-ghost use Rattle.std.specs.Prelude.{◌≡◌, ◌+◌, ◌*◌, ◌≤◌, ◌++◌, ◌↔◌, [], length, IfOk, IsTrue};
+ghost use Rattle.std.specs.Prelude.{◌≡◌, ◌+◌, ◌*◌, ◌≤◌, ◌++◌, ◌↔◌, [], length, IfOk, IsTrue, is_some};
 ghost use Rattle.hpb_outside.specs.Faults.{HasCause};
 ghost use Rattle.flat_unit.specs.Print.{line_of};
 ghost use Rattle.trace_text.specs.Written.{upiu_line};
+ghost use Rattle.trace_text.specs.Shown.{shown_line};
+ghost use Rattle.trace_replay.specs.Showing.{shown_text};
+ghost use Rattle.trace_text.specs.declared.window.TheConstants.{LINE_BYTES};
 ghost use Rattle.trace_replay.specs.Writes.{Writes};
 ghost use Rattle.trace_replay.specs.declared.output.TheConstants.{OUTPUT_BYTES, LINE_ROOM};
 
@@ -9,7 +12,7 @@ use flat_unit::Event;
 use hpb_outside::{Failed, NoMemory, Sink};
 use std::alloc::Global;
 use std::marker::Model;
-use trace_text::{put_event, put_upiu};
+use trace_text::{put_event, put_shown, put_upiu};
 
 /// The bytes that are gathered at most.
 const OUTPUT_BYTES: usize = 524_288;
@@ -70,6 +73,23 @@ impl Output {
         let end = self.len + text.len();
         self.text[self.len..end].copy_from_slice(text);
         self.len = end;
+    }
+
+    /// Adds what is shown of a line, whose UPIU is written to the room; or nothing, where its UPIU isn't hex.
+    pub(crate) fn push_shown(&mut self, line: &[u8], room: &mut [u8]) -> bool
+        requires line { length line.now ≤ LINE_BYTES }
+        requires room { 65600 ≤ length room.old }
+        requires out { length self.old + LINE_ROOM ≤ OUTPUT_BYTES }
+        ensures known { result ≡ is_some (shown_line line.now) }
+        ensures shown { self.new ≡ self.old ++ shown_text line.now }
+    {
+        match put_shown(line, room, &mut self.text[self.len..]) {
+            Some(len) => {
+                self.len += len;
+                true
+            }
+            None => false,
+        }
     }
 
     /// Whether there is room for the lines of one call.

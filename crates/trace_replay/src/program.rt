@@ -1,17 +1,19 @@
-ghost use Rattle.std.specs.Prelude.{◌≡◌, ◌≤◌, ◌⊎◌, [], None, map, string_bytes};
+ghost use Rattle.std.specs.Prelude.{◌≡◌, ◌≤◌, ◌⊎◌, ℕ, List, [], None, map, string_bytes};
 ghost use Rattle.hpb_outside.specs.Faults.{HasCause, Rose};
 ghost use Rattle.flash_pages.specs.Chip.{erased_chip};
 ghost use Rattle.std.specs.Io.KnownBytes.{Appends, prepend_known};
 ghost use Rattle.hpb_device.specs.Standing.{sizes_of};
 ghost use Rattle.trace_replay.specs.Run.{EndsLong, Finishes, IsLeft, ProgramIs, RunIs, bad_line_text};
+ghost use Rattle.trace_replay.specs.Showing.{ShowProgramIs};
 ghost use Rattle.trace_replay.specs.Transcript.{IsTranscript, whole_chip};
 ghost use Rattle.trace_replay.specs.Writes.{AppendsFront};
-ghost use Rattle.trace_replay.specs.Words.{IsReplay};
+ghost use Rattle.trace_replay.specs.Words.{IsReplay, IsShow};
 
 use crate::output::{Output, write_all};
 use crate::replay::{Buffers, Turn, make_room, take_turn};
+use crate::show::show;
 use crate::status::{Outcome, Status};
-use crate::words::is_replay;
+use crate::words::{is_replay, is_show};
 use flash_pages::{Flash, Geometry};
 use hpb_device::Device;
 use hpb_outside::{Failed, NewFault, Sink, Source};
@@ -20,12 +22,13 @@ use region_state::{Mode, Shape};
 use std::alloc::Global;
 
 /// The lines that a trace has at most.
-const LINES: u32 = 1_000_000;
+pub(crate) const LINES: u32 = 1_000_000;
 
-/// Replays the trace of a source against a device over an erased chip, and prints the transcript.
+/// Runs a command over a source, and prints to a sink. The words are those after the program's name.
 ///
-/// The words are those after the program's name: the one word `replay`. The device has one logical unit, of as many
-/// blocks as the chip has pages but for three erase blocks.
+/// `replay` replays a trace against a device over an erased chip, and prints the transcript. The device has one logical
+/// unit, of as many blocks as the chip has pages but for three erase blocks. `show` prints one line for each line of a
+/// transcript, and leaves the chip alone.
 pub fn run<S: Source, K: Sink, F: Flash>(
     alloc: Global,
     words: &[String],
@@ -35,7 +38,39 @@ pub fn run<S: Source, K: Sink, F: Flash>(
 ) -> Outcome<F>
     requires { F.pages flash ≡ erased_chip (F.geometry flash) }
     // What was read and written, why the run ended, and what is known of the events and of the chip that is handed back.
-    ensures run { ProgramIs (map string_bytes words.now) (F.geometry flash)
+    ensures run { ¬ IsShow (map string_bytes words.now) → ProgramIs (map string_bytes words.now) (F.geometry flash)
+        (λ p. IsTranscript (F.geometry flash) (F.faults flash) (F.faults result.flash) (F.pages result.flash) p.events)
+        ((source.new ≡ source.old) × (F.pages result.flash ≡ F.pages flash))
+        (S.left source.old) (S.left source.new) (K.written sink.old) (K.written sink.new)
+        (Rose (S.faults source.old) (S.faults source.new)) (Rose (K.faults sink.old) (K.faults sink.new)) LINES result.status }
+    // What is shown of each line, and why the run ended.
+    ensures show { IsShow (map string_bytes words.now) → ShowProgramIs
+        (S.left source.old) (S.left source.new) (K.written sink.old) (K.written sink.new)
+        (Rose (S.faults source.old) (S.faults source.new)) (Rose (K.faults sink.old) (K.faults sink.new)) LINES result.status }
+    ensures untouched { IsShow (map string_bytes words.now) → result.flash ≡ flash }
+    ensures geometry { F.geometry result.flash ≡ F.geometry flash }
+    ensures source_later { S.faults source.old ≤ S.faults source.new }
+    ensures sink_later { K.faults sink.old ≤ K.faults sink.new }
+{
+    if is_replay(words) {
+        return run_replay(alloc, source, sink, flash);
+    }
+    if is_show(words) {
+        let status = run_show(alloc, source, sink);
+        return Outcome { status, flash };
+    }
+    refused(sink, Status::Usage, b"E usage\n", flash)
+}
+
+/// Replays a trace.
+fn run_replay<S: Source, K: Sink, F: Flash>(
+    alloc: Global,
+    source: &mut S,
+    sink: &mut K,
+    flash: F,
+) -> Outcome<F>
+    requires { F.pages flash ≡ erased_chip (F.geometry flash) }
+    ensures run { (words : List (List ℕ)) → IsReplay words → ProgramIs words (F.geometry flash)
         (λ p. IsTranscript (F.geometry flash) (F.faults flash) (F.faults result.flash) (F.pages result.flash) p.events)
         ((source.new ≡ source.old) × (F.pages result.flash ≡ F.pages flash))
         (S.left source.old) (S.left source.new) (K.written sink.old) (K.written sink.new)
@@ -44,9 +79,6 @@ pub fn run<S: Source, K: Sink, F: Flash>(
     ensures source_later { S.faults source.old ≤ S.faults source.new }
     ensures sink_later { K.faults sink.old ≤ K.faults sink.new }
 {
-    if !is_replay(words) {
-        return refused(sink, Status::Usage, b"E usage\n", flash);
-    }
     let shape = whole_chip(flash.geometry());
     let mut device = match Device::new(alloc, flash, shape, 1) {
         Ok(device) => device,
@@ -71,6 +103,20 @@ pub fn run<S: Source, K: Sink, F: Flash>(
         status,
         flash: device.into_flash(),
     }
+}
+
+/// Shows the lines of a text.
+fn run_show<S: Source, K: Sink>(alloc: Global, source: &mut S, sink: &mut K) -> Status
+    ensures show { ShowProgramIs
+        (S.left source.old) (S.left source.new) (K.written sink.old) (K.written sink.new)
+        (Rose (S.faults source.old) (S.faults source.new)) (Rose (K.faults sink.old) (K.faults sink.new)) LINES result }
+    ensures source_later { S.faults source.old ≤ S.faults source.new }
+    ensures sink_later { K.faults sink.old ≤ K.faults sink.new }
+{
+    let Ok(mut buffers) = Buffers::new(alloc) else {
+        return Status::Memory;
+    };
+    show(&mut buffers, source, sink)
 }
 
 /// The shape of a unit with all blocks that a chip of this geometry can hold.
@@ -135,7 +181,7 @@ fn replay<S: Source, K: Sink, F: Flash>(
 }
 
 /// Writes what was gathered, and ends with this status.
-fn finish<K: Sink>(output: &mut Output, sink: &mut K, status: Status) -> Status
+pub(crate) fn finish<K: Sink>(output: &mut Output, sink: &mut K, status: Status) -> Status
     ensures ends { Finishes (K.written sink.old) (K.written sink.new) output.old [] (Rose (K.faults sink.old) (K.faults sink.new)) status result }
     ensures later { K.faults sink.old ≤ K.faults sink.new }
 {
@@ -146,7 +192,7 @@ fn finish<K: Sink>(output: &mut Output, sink: &mut K, status: Status) -> Status
 }
 
 /// Ends at a line that the trace can't have.
-fn refuse_line<K: Sink>(output: &mut Output, sink: &mut K, number: u32) -> Status
+pub(crate) fn refuse_line<K: Sink>(output: &mut Output, sink: &mut K, number: u32) -> Status
     ensures ends { Finishes (K.written sink.old) (K.written sink.new) output.old (bad_line_text number) (Rose (K.faults sink.old) (K.faults sink.new))
         (Status.BadLine number) result }
     ensures later { K.faults sink.old ≤ K.faults sink.new }
@@ -162,7 +208,11 @@ fn refuse_line<K: Sink>(output: &mut Output, sink: &mut K, number: u32) -> Statu
 }
 
 /// Ends after the last line that a trace may have.
-fn end_long<S: Source, K: Sink>(buffers: &mut Buffers, source: &mut S, sink: &mut K) -> Status
+pub(crate) fn end_long<S: Source, K: Sink>(
+    buffers: &mut Buffers,
+    source: &mut S,
+    sink: &mut K,
+) -> Status
     ensures ends { EndsLong (K.written sink.old) (K.written sink.new) buffers.old.output
         (prepend_known buffers.old.reader (S.left source.old)) (prepend_known buffers.new.reader (S.left source.new))
         (Rose (S.faults source.old) (S.faults source.new)) (Rose (K.faults sink.old) (K.faults sink.new)) result }

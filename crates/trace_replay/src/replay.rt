@@ -188,7 +188,7 @@ fn serve<K: Sink, F: Flash>(
 }
 
 /// Writes what was gathered, where the next line asks the source for more.
-fn write_before_read<K: Sink>(
+pub(crate) fn write_before_read<K: Sink>(
     reader: &LineReader,
     output: &mut Output,
     sink: &mut K,

@@ -363,14 +363,15 @@ fn is_usage(alloc: Global, words: &[&str]) -> Result<bool, Fail> {
 #[test]
 fn other_words_are_refused(rt: HostRuntime) -> Result<(), Fail> {
     assert!(rt; is_usage(rt.alloc(), &[])?);
-    assert!(rt; is_usage(rt.alloc(), &["show"])?);
+    assert!(rt; is_usage(rt.alloc(), &["shows"])?);
+    assert!(rt; is_usage(rt.alloc(), &["show", "replay"])?);
     assert!(rt; is_usage(rt.alloc(), &["Replay"])?);
     assert!(rt; is_usage(rt.alloc(), &["replay", "x"])?);
     let outside = Outside {
         writes: only(rt.alloc(), 1)?,
         ..Outside::faultless(rt.alloc())
     };
-    let ran = run_words(rt.alloc(), &["show"], b"D\n", outside)?;
+    let ran = run_words(rt.alloc(), &["shows"], b"D\n", outside)?;
     assert!(rt; ran.status == Status::WriteFault && ran.printed.is_empty());
     Ok(())
 }
@@ -602,5 +603,82 @@ fn a_chip_that_is_too_small_is_refused(rt: HostRuntime) -> Result<(), Fail> {
     );
     assert!(rt; outcome.status == Status::Geometry);
     assert_eq!(rt; sink.bytes(), b"E geometry\n".as_slice());
+    Ok(())
+}
+
+/// What `show` prints for a text of words, and how it ends.
+fn show(alloc: Global, words: &str, outside: Outside) -> Result<Ran, Fail> {
+    let mut text = Vec::new(alloc);
+    push_words(&mut text, words)?;
+    run_words(alloc, &["show"], &text, outside)
+}
+
+#[test]
+fn a_transcript_is_shown(rt: HostRuntime) -> Result<(), Fail> {
+    let ran = show(
+        rt.alloc(),
+        "U 01400001 z z 00001000 28000000 00050000 01000000 z / ! read / \
+         < 21000004 z 00000014 z z z z z 00128010 01000100 00000002 z z / \
+         < 3F000000 00000100 z 05000000 z z z z / D",
+        Outside::faultless(rt.alloc()),
+    )?;
+    assert!(rt; ran.status == Status::Done);
+    assert_eq!(rt;
+        ran.printed.as_slice(),
+        b"COMMAND lun=0 tag=1 exp=4096 READ lba=5 n=1\n! read\n\
+          RESPONSE lun=0 tag=4 status=00 resid=0 hint op=1 lun=0 act=0:2 inact=\n\
+          REJECT lun=0 tag=0 reason=5\nD\n"
+            .as_slice()
+    );
+    Ok(())
+}
+
+#[test]
+fn a_text_that_is_no_transcript_is_refused(rt: HostRuntime) -> Result<(), Fail> {
+    let ran = show(rt.alloc(), "D / > 0", Outside::faultless(rt.alloc()))?;
+    assert!(rt; ran.status == Status::BadLine(2));
+    assert_eq!(rt; ran.printed.as_slice(), b"D\nE line 2\n".as_slice());
+    let ran = show(rt.alloc(), "< / < 0g / D", Outside::faultless(rt.alloc()))?;
+    assert!(rt; ran.status == Status::BadLine(2));
+    assert_eq!(rt; ran.printed.as_slice(), b"BAD 1\nE line 2\n".as_slice());
+    Ok(())
+}
+
+#[test]
+fn a_line_at_the_limit_is_shown(rt: HostRuntime) -> Result<(), Fail> {
+    let longest = vec![in rt.alloc(); b'#'; 131_200]?;
+    let ran = run_words(
+        rt.alloc(),
+        &["show"],
+        &longest,
+        Outside::faultless(rt.alloc()),
+    )?;
+    assert!(rt; ran.status == Status::Done && ran.printed.len() == 131_201);
+    let longer = vec![in rt.alloc(); b'#'; 131_201]?;
+    let ran = run_words(
+        rt.alloc(),
+        &["show"],
+        &longer,
+        Outside::faultless(rt.alloc()),
+    )?;
+    assert!(rt; ran.status == Status::BadLine(1));
+    assert_eq!(rt; ran.printed.as_slice(), b"E line 1\n".as_slice());
+    Ok(())
+}
+
+#[test]
+fn faults_end_what_is_shown(rt: HostRuntime) -> Result<(), Fail> {
+    let outside = Outside {
+        reads: only(rt.alloc(), 1)?,
+        ..Outside::faultless(rt.alloc())
+    };
+    let ran = show(rt.alloc(), "D", outside)?;
+    assert!(rt; ran.status == Status::ReadFault && ran.printed.is_empty());
+    let outside = Outside {
+        writes: only(rt.alloc(), 1)?,
+        ..Outside::faultless(rt.alloc())
+    };
+    let ran = show(rt.alloc(), "D", outside)?;
+    assert!(rt; ran.status == Status::WriteFault && ran.printed.is_empty());
     Ok(())
 }

@@ -1,7 +1,7 @@
 ghost use Rattle.std.specs.Prelude.{◌≡◌, ◌↔◌, [], map, string_bytes, IsTrue, IfOk};
 ghost use Rattle.flash_pages.specs.Chip.{erased_chip};
 ghost use Rattle.flash_pages.specs.MemFlash.{geometry_of, pages_of, plan_of};
-ghost use Rattle.trace_replay.specs.Words.{IsReplay};
+ghost use Rattle.trace_replay.specs.Words.{IsReplay, IsShow};
 
 use flash_pages::{Geometry, MemFlash};
 use hpb_outside::NoMemory;
@@ -25,6 +25,16 @@ pub(crate) fn is_replay(words: &[String]) -> bool
 {
     match words {
         [word] => word.as_str() == "replay",
+        _ => false,
+    }
+}
+
+/// Whether the words are the one word `show`.
+pub(crate) fn is_show(words: &[String]) -> bool
+    ensures { IsTrue result ↔ IsShow (map string_bytes words.now) }
+{
+    match words {
+        [word] => word.as_str() == "show",
         _ => false,
     }
 }

@@ -1,0 +1,94 @@
+-- `show` goes on line by line, and how it ends.
+use Rattle.std.proofs.Common.{◌≡◌, ℕ, ◌+◌, Bool, true, false, List, [], ◌∷◌, ◌++◌, length, Option, Some, None, refl, sym, ◌∙◌, ap, subst, arith, inl, inr, ◌⊎◌, length-append}
+use Rattle.std.specs.Prelude.{map, flat_map, is_some, option_map, IfSome}
+use Rattle.std.specs.Option.{option_map_or}
+use Rattle.std.proofs.lemmas.List.{append_assoc, append-nil, map-append}
+use Rattle.std.proofs.lemmas.Bool.{false≢true}
+use Rattle.std.specs.Io.KnownBytes.{Appends}
+use Rattle.trace_text.specs.Lines.{TakesLine, EndsAt, WhereTold}
+use Rattle.trace_text.specs.Shown.{shown_line}
+use Rattle.trace_replay.specs.declared.status.Status.{Status}
+use Rattle.trace_replay.specs.declared.status.Status.TheVariants.{Done, BadLine, ReadFault, WriteFault, LongTrace, Usage, Memory, Geometry, ChipFault, BadImage, BadCapture}
+use Rattle.trace_replay.specs.Run.{AreLastWords, LastIs, bad_line_text, long_text}
+use Rattle.trace_replay.specs.Showing.{IsUnshown, ShowIs, Shows, shown_text}
+use Rattle.trace_replay.specs.Writes.{AppendsFront, HasWrittenUpTo}
+use Rattle.trace_replay.proofs.Runs.{front_wordless, takes_more, wordless}
+use Rattle.trace_replay.proofs.Written.{gathers_more, nothing_yet}
+
+pub some_of : (o : Option (List ℕ)) → is_some o ≡ true → o ≡ Some (option_map_or (λ (text : List ℕ). text) o [])
+some_of None some = absurd (false≢true some)
+some_of (Some text) some = refl
+
+pub none_of : (o : Option (List ℕ)) → is_some o ≡ false → o ≡ None
+none_of None none = refl
+none_of (Some text) none = absurd (false≢true (sym none))
+
+-- nothing is added for a line that isn't shown
+pub nothing_shown : (o : Option (List ℕ)) (gathered : List ℕ) → is_some o ≡ false → gathered ++ option_map_or (λ (text : List ℕ). text) o [] ≡ gathered
+nothing_shown None gathered none = append-nil gathered
+nothing_shown (Some text) gathered none = absurd (false≢true (sym none))
+
+-- the lines so far, and what was written of them
+abbrev pub HasShown : (left now before written : Option (List ℕ)) (gathered : List ℕ) → ℕ → Type 0
+HasShown left now before written gathered n = (text : List ℕ) × Shows left now n text × HasWrittenUpTo before written text gathered
+
+pub shows_begin : (left w : Option (List ℕ)) (gathered : List ℕ) → gathered ≡ [] → HasShown left left w w gathered 0
+shows_begin left w gathered fresh =
+    ([], record { lines = []; shown = []; taken = refl; each = refl; counted = refl; whole = refl }, rw fresh (nothing_yet w []))
+
+flat_more : (xs : List (List ℕ)) (last : List ℕ) → flat_map (λ (x : List ℕ). x) xs ++ last ≡ flat_map (λ (x : List ℕ). x) (xs ++ last ∷ [])
+flat_more [] last = sym (append-nil last)
+flat_more (x ∷ xs) last = append_assoc x (flat_map (λ (x : List ℕ). x) xs) last ∙ ap (λ (l : List ℕ). x ++ l) (flat_more xs last)
+
+pub shows_more : (left mid now : Option (List ℕ)) (n next : ℕ) (text line shown : List ℕ) → Shows left mid n text → WhereTold (TakesLine line) mid now → shown_line line ≡ Some shown → next ≡ n + 1 → Shows left now next (text ++ shown)
+shows_more left mid now n next text line shown so_far takes is counted = record {
+  lines = so_far.lines ++ line ∷ [];
+  shown = so_far.shown ++ shown ∷ [];
+  taken = takes_more left so_far.lines mid now line so_far.taken takes;
+  each = map-append shown_line so_far.lines (line ∷ []) ∙ ((λ i. so_far.each i ++ is i ∷ []) ∙ sym (map-append (λ (l : List ℕ). Some l) so_far.shown (shown ∷ [])));
+  counted = omega (arith, length-append so_far.lines (line ∷ []), so_far.counted, counted);
+  whole = ap (λ (l : List ℕ). l ++ shown) so_far.whole ∙ flat_more so_far.shown shown;
+}
+
+module _ (left mid left_now before written : Option (List ℕ)) (source_rose sink_rose : Type 0) (limit n : ℕ) (text : List ℕ) (shows : Shows left mid n text) where
+  abbrev pub ShowEnds : Status → Type 0
+  ShowEnds status = ShowIs left left_now before written source_rose sink_rose limit status
+
+  pub show_cut : (words : List ℕ) → AreLastWords words → AppendsFront before written (text ++ words) → sink_rose → ShowEnds WriteFault
+  show_cut words last cut rose = (mid, n, text, words, shows, last, cut, rose)
+
+  pub show_done : (result : Status) → WhereTold EndsAt mid left_now → ((result ≡ Done) × Appends before written (text ++ [])) ⊎ ((result ≡ WriteFault) × AppendsFront before written (text ++ []) × sink_rose) → ShowEnds result
+  show_done result ends (inl (is, all)) = subst ShowEnds (sym is) (mid, n, text, shows, wordless before written text all, ends)
+  show_done result ends (inr (is, cut, rose)) = subst ShowEnds (sym is) (show_cut [] (inl refl) cut rose)
+
+  pub show_unread : (result : Status) → source_rose → ((result ≡ ReadFault) × Appends before written (text ++ [])) ⊎ ((result ≡ WriteFault) × AppendsFront before written (text ++ []) × sink_rose) → ShowEnds result
+  show_unread result source (inl (is, all)) = subst ShowEnds (sym is) (mid, n, text, shows, wordless before written text all, source)
+  show_unread result source (inr (is, cut, rose)) = subst ShowEnds (sym is) (show_cut [] (inl refl) cut rose)
+
+  pub show_bad : (result : Status) (number : ℕ) → number ≡ n + 1 → IsUnshown mid → ((result ≡ BadLine number) × Appends before written (text ++ bad_line_text number)) ⊎ ((result ≡ WriteFault) × AppendsFront before written (text ++ bad_line_text number) × sink_rose) → ShowEnds result
+  show_bad result number counted bad (inl (is, all)) = subst ShowEnds (sym is) (mid, n, text, shows, all, bad, counted)
+  show_bad result number counted bad (inr (is, cut, rose)) = subst ShowEnds (sym is) (show_cut (bad_line_text number) (inr (inr (number, refl))) cut rose)
+
+  pub show_last : (result : Status) → n ≡ limit → LastIs before written text mid left_now source_rose sink_rose result → ShowEnds result
+  show_last Done all (written_all, ends) = (mid, n, text, shows, written_all, ends)
+  show_last LongTrace all (written_all, more) = (mid, text, subst (λ (count : ℕ). Shows left mid count text) all shows, written_all, more)
+  show_last ReadFault all (written_all, rose) = (mid, n, text, shows, written_all, rose)
+  show_last WriteFault all (words, last, cut, rose) = show_cut words last cut rose
+  show_last (BadLine number) all none = absurd none
+  show_last Usage all none = absurd none
+  show_last Memory all none = absurd none
+  show_last Geometry all none = absurd none
+  show_last ChipFault all none = absurd none
+  show_last (BadImage fault) all none = absurd none
+  show_last (BadCapture offset fault) all none = absurd none
+
+-- the text of a line that is shown, by how long it is
+pub text_of_count : (o : Option (List ℕ)) (count : ℕ) (P : List ℕ → Type 0) → Some count ≡ option_map length o → IfSome o P → P (option_map_or (λ (text : List ℕ). text) o []) × (count ≡ length (option_map_or (λ (text : List ℕ). text) o []))
+text_of_count None count P is told = absurd (no_count is)
+  where
+    no_count : {n : ℕ} → Some n ≡ None → ⊥
+    no_count e = cc
+text_of_count (Some text) count P is told = (told, same is)
+  where
+    same : {a b : ℕ} → Some a ≡ Some b → a ≡ b
+    same e = cc

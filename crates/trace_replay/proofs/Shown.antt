@@ -1,6 +1,6 @@
 -- `show` goes on line by line, and how it ends.
-use Rattle.std.proofs.Common.{◌≡◌, ℕ, ◌+◌, Bool, true, false, List, [], ◌∷◌, ◌++◌, length, Option, Some, None, refl, sym, ◌∙◌, ap, subst, arith, inl, inr, ◌⊎◌, length-append}
-use Rattle.std.specs.Prelude.{map, flat_map, is_some, option_map, IfSome}
+use Rattle.std.proofs.Common.{◌≡◌, ℕ, ◌+◌, true, false, List, [], ◌∷◌, ◌++◌, length, Option, Some, None, refl, sym, ◌∙◌, ap, subst, arith, inl, inr, ◌⊎◌, length-append}
+use Rattle.std.specs.Prelude.{flat_map, is_some, option_map, IfSome}
 use Rattle.std.specs.Option.{option_map_or}
 use Rattle.std.proofs.lemmas.List.{append_assoc, append-nil, map-append}
 use Rattle.std.proofs.lemmas.Bool.{false≢true}
@@ -9,11 +9,11 @@ use Rattle.trace_text.specs.Lines.{TakesLine, EndsAt, WhereTold}
 use Rattle.trace_text.specs.Shown.{shown_line}
 use Rattle.trace_replay.specs.declared.status.Status.{Status}
 use Rattle.trace_replay.specs.declared.status.Status.TheVariants.{Done, BadLine, ReadFault, WriteFault, LongTrace, Usage, Memory, Geometry, ChipFault, BadImage, BadCapture}
-use Rattle.trace_replay.specs.Run.{AreLastWords, LastIs, bad_line_text, long_text}
-use Rattle.trace_replay.specs.Showing.{IsUnshown, ShowIs, Shows, shown_text}
+use Rattle.trace_replay.specs.Run.{AreLastWords, LastIs, bad_line_text}
+use Rattle.trace_replay.specs.Showing.{IsUnshown, ShowIs, Shows}
 use Rattle.trace_replay.specs.Writes.{AppendsFront, HasWrittenUpTo}
-use Rattle.trace_replay.proofs.Runs.{front_wordless, takes_more, wordless}
-use Rattle.trace_replay.proofs.Written.{gathers_more, nothing_yet}
+use Rattle.trace_replay.proofs.Runs.{takes_more, wordless}
+use Rattle.trace_replay.proofs.Written.{nothing_yet}
 
 pub some_of : (o : Option (List ℕ)) → is_some o ≡ true → o ≡ Some (option_map_or (λ (text : List ℕ). text) o [])
 some_of None some = absurd (false≢true some)

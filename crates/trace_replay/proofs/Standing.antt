@@ -27,7 +27,7 @@ use Rattle.flash_pages.specs.declared.chip.ChipOp.{ChipOp}
 use Rattle.flash_pages.specs.Place.{Place}
 use Rattle.trace_replay.specs.Transcript.{NeverDead}
 use Rattle.flat_unit.specs.Trace.{Upiu, Drain, Blank}
-use Rattle.flat_unit.proofs.History.{print-▹, print-followed_by, failures-followed_by, due_at_once, reply_to_fault, reply_to_kind}
+use Rattle.flat_unit.proofs.History.{print-followed_by, failures-followed_by, due_at_once, reply_to_fault, reply_to_kind}
 use Rattle.hpb_device.specs.declared.device.Sent.{Sent}
 use Rattle.hpb_device.specs.declared.device.Sent.TheVariants.{Nothing, Upiu as UpiuSent}
 use Rattle.hpb_device.specs.declared.device.Stepped.{Stepped}

@@ -1,15 +1,14 @@
-ghost use Rattle.std.specs.Prelude.{◌≡◌, ◌+◌, ◌*◌, ◌/◌, ◌≤◌, ◌<◌, ◌++◌, [], ◌∷◌, IfSome, length, take, drop, decimal, codes, option_map};
+ghost use Rattle.std.specs.Prelude.{◌≡◌, ◌+◌, ◌/◌, ◌≤◌, ◌++◌, IfSome, length, take, drop, decimal, codes, option_map};
 ghost use Rattle.hex.specs.Hex.{decode_of, encode_lower};
 ghost use Rattle.std.specs.Int.{w64, to_be_bytes};
 ghost use Rattle.upiu_wire.specs.Upiu.{upiu_at};
 ghost use Rattle.trace_text.specs.declared.show.TheConstants.{SHOWN_BYTES, TEXT_BYTES};
 ghost use Rattle.trace_text.specs.declared.window.TheConstants.{LINE_BYTES};
 ghost use Rattle.trace_text.specs.Written.{Puts};
-ghost use Rattle.trace_text.specs.Shown.{named, byte_text, digit_text, command_text, refused_text, cdb_text, pair_text, pairs_text, regions_text, sense_of, fixed_text, hint_text, sense_text, kind_name, moved_text, rest_text, upiu_text, shown_upiu, bytes_text, marked_digits, decoded, shown_line, any_limits};
+ghost use Rattle.trace_text.specs.Shown.{named, byte_text, digit_text, command_text, cdb_text, pair_text, pairs_text, regions_text, sense_of, fixed_text, hint_text, sense_text, kind_name, moved_text, rest_text, upiu_text, shown_upiu, bytes_text, marked_digits, decoded, shown_line, any_limits};
 ghost use Rattle.hpb_cdb.specs.Read.{cdb_of};
 ghost use Rattle.upiu_wire.specs.WireFault.{wire_fault_of};
 
-use crate::window::LINE_BYTES;
 use crate::writer::put;
 use arrayvec::ArrayVec;
 use hpb_cdb::{Cdb, CdbFault, Limits};

@@ -1,4 +1,3 @@
-use Rattle.std.proofs.Common.{◌≡◌, rules}
 use Rattle.std.specs.Prelude.{map, string_bytes}
 use Rattle.trace_replay.proofs.program.run.Goals as goal
 

@@ -1,4 +1,4 @@
-use Rattle.std.proofs.Common.{◌≡◌, refl, rules, inl, inr, arith, sym, ◌∙◌, List, ℕ}
+use Rattle.std.proofs.Common.{◌≡◌, rules}
 use Rattle.trace_replay.specs.Run.{IsPlanned}
 use Rattle.trace_replay.proofs.Transcripts.{IsFresh, run_of_chip}
 use Rattle.trace_replay.proofs.program.run_replay.Goals as goal

@@ -1,10 +1,8 @@
-use Rattle.std.proofs.Common.{◌≡◌, ◌++◌, ◌+◌, ◌*◌, ◌≤◌, List, ℕ, length, refl, rules, sym, ◌∙◌, ap, arith, length-append}
+use Rattle.std.proofs.Common.{◌≡◌, ◌+◌, ◌≤◌, length, refl, rules, sym, ◌∙◌, ap, arith, length-append}
 use Rattle.flat_unit.specs.Print.{print, line_of}
-use Rattle.flat_unit.specs.declared.event.Event.TheVariants.{Host, Device}
-use Rattle.hpb_device.specs.declared.device.Sent.{Sent}
+use Rattle.flat_unit.specs.declared.event.Event.TheVariants.{Host}
 use Rattle.hpb_device.specs.declared.device.Sent.TheVariants.{Nothing, Upiu as UpiuSent}
-use Rattle.trace_replay.specs.declared.form.Form.TheVariants.{Block, Other}
-use Rattle.trace_replay.specs.Form.{form_of}
+use Rattle.trace_replay.specs.declared.form.Form.TheVariants.{Block}
 use Rattle.std.proofs.lemmas.Bool.{false≢true}
 use Rattle.trace_text.proofs.Lengths.{length-Host}
 use Rattle.trace_replay.proofs.Written.{cut_of, whole_of}

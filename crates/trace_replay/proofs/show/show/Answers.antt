@@ -1,4 +1,4 @@
-use Rattle.std.proofs.Common.{◌≡◌, ◌++◌, ◌+◌, ◌≤◌, List, ℕ, Option, None, [], refl, rules, inl, inr, arith, sym, ◌∙◌}
+use Rattle.std.proofs.Common.{◌≡◌, ◌++◌, [], refl, inl, arith}
 use Rattle.hpb_outside.specs.Faults.{Rose}
 use Rattle.trace_replay.proofs.Runs.{front_wordless, last_since, rose_since}
 use Rattle.trace_replay.proofs.Shown.{shows_begin, shows_more, show_done, show_unread, show_bad, show_last}

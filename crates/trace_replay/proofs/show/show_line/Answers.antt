@@ -1,4 +1,4 @@
-use Rattle.std.proofs.Common.{◌≡◌, ◌++◌, List, ℕ, Option, Some, None, refl, rules, sym, ◌∙◌, ap, inl, inr}
+use Rattle.std.proofs.Common.{rules, sym, ◌∙◌, inl, inr}
 use Rattle.trace_text.specs.Shown.{shown_line}
 use Rattle.trace_replay.specs.Showing.{shown_text}
 use Rattle.trace_replay.proofs.Shown.{none_of, nothing_shown, some_of}

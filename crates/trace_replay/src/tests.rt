@@ -230,13 +230,13 @@ fn a_block_is_written_until_the_chip_is_full(rt: HostRuntime) -> Result<(), Fail
     Ok(())
 }
 
-/// The multiples of a number, below a limit.
-fn multiples(alloc: Global, of: u64, below: usize) -> Result<Vec<u64>, Fail> {
+/// So many places, evenly apart.
+fn places(alloc: Global, first: u64, step: u64, count: usize) -> Result<Vec<u64>, Fail> {
     let mut found = Vec::new(alloc);
-    let mut next = of;
-    for _cut in 0..below {
+    let mut next = first;
+    for _place in 0..count {
         found.push(next)?;
-        next = next.saturating_add(of);
+        next = next.saturating_add(step);
     }
     Ok(found)
 }
@@ -244,14 +244,24 @@ fn multiples(alloc: Global, of: u64, below: usize) -> Result<Vec<u64>, Fail> {
 #[test]
 fn cuts_of_the_source_change_nothing(rt: HostRuntime) -> Result<(), Fail> {
     let script = one_block(rt.alloc())?;
-    for (step, cuts) in [(1, 300), (5, 1700), (67, 126), (1000, 9)] {
+    // Bytes that come one by one at first, and cuts that together stand at each place of the trace.
+    for (first, step, count) in [
+        (1, 1, 300),
+        (1, 5, 1700),
+        (2, 5, 1700),
+        (3, 5, 1700),
+        (4, 5, 1700),
+        (5, 5, 1700),
+        (67, 67, 126),
+        (1000, 1000, 9),
+    ] {
         let outside = Outside {
-            cuts: multiples(rt.alloc(), step, cuts)?,
+            cuts: places(rt.alloc(), first, step, count)?,
             ..Outside::faultless(rt.alloc())
         };
         assert!(rt;
             is_printed(rt.alloc(), &script, outside)?,
-            "at multiples of {step}"
+            "from {first} on, {step} apart"
         );
     }
     Ok(())

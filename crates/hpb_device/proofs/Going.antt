@@ -1,10 +1,10 @@
 -- What a step of a device tells, and where it leaves the device, whatever its command.
-use Rattle.std.proofs.Common.{◌≡◌, ℕ, ◌+◌, ◌-◌, ◌*◌, ◌/◌, ◌<◌, ◌≤◌, true, false, nat_lt, List, [], ◌∷◌, Option, Some, None, refl, sym, ◌∙◌, ap, subst, arith, inl, inr}
+use Rattle.std.proofs.Common.{◌≡◌, ℕ, ◌+◌, ◌-◌, ◌*◌, ◌/◌, ◌<◌, ◌≤◌, true, false, nat_lt, List, [], ◌∷◌, ◌++◌, map, Option, Some, None, refl, sym, ◌∙◌, ap, subst, arith, inl, inr}
 use Rattle.std.proofs.lemmas.Bool.{false≢true}
 use Rattle.std.proofs.Math.Nat.{mul-le-mul_right, mul_assoc}
 use Rattle.std.proofs.lemmas.Bool.Decides.{nat_tests}
-use Rattle.std.specs.Prelude.{MatchOption, ⊤}
-use Rattle.std.specs.Option.{option_map_or}
+use Rattle.std.specs.Prelude.{sum_by}
+use Rattle.std.proofs.lemmas.List.Sums.{sum_by-cons, sum_by_push}
 use Rattle.flash_pages.specs.declared.chip.ChipOp.{ChipOp}
 use Rattle.hpb_cdb.specs.declared.cdb.Cdb.{Cdb}
 use Rattle.hpb_cdb.specs.declared.cdb.Cdb.TheVariants.{TestReady, Read, Write, Capacity, Sync, HpbRead, ReadBuffer, Prefetch, InactOne, InactAll}
@@ -27,49 +27,51 @@ use Rattle.flat_unit.specs.Task.{Task as Waiting}
 use Rattle.flat_unit.proofs.Steps.{stands_begun}
 use Rattle.flash_pages.specs.Unit.{unit_of, next_seq}
 use Rattle.hpb_device.specs.declared.advance.Progress.{Progress}
-use Rattle.hpb_device.specs.declared.advance.Progress.TheVariants.{Shown, Asked, Programmed, Ended, Failed}
+use Rattle.hpb_device.specs.declared.advance.Progress.TheVariants.{Shown, Told, Asked, Programmed, Ended, Failed}
 use Rattle.hpb_device.specs.declared.device.Stepped.{Stepped}
 use Rattle.hpb_device.specs.declared.task.Task.{Task}
-use Rattle.hpb_device.specs.Advance.{Advances, failure_of}
+use Rattle.hpb_device.specs.Advance.{Advances, capacity_of, failure_of}
 use Rattle.hpb_device.specs.Calls.{GoesOn, Leaves, stepped}
-use Rattle.hpb_device.specs.Keeps.{KeepsTasks, IsTaskOf}
+use Rattle.hpb_device.specs.Keeps.{KeepsTasks, IsTaskOf, waiting_of}
 use Rattle.hpb_device.specs.Standing.{DeviceStands, first_of, group_of, kept_of, programmed_of, sizes_of}
-use Rattle.hpb_device.specs.State.{DeviceState, AtRest, steps_left}
-use Rattle.hpb_device.specs.Task.{WaitsForData, IsTaskOk, bytes_given, bytes_taken, steps_of}
+use Rattle.hpb_device.specs.State.{DeviceState, AreAtRest, AtRest, steps_left}
+use Rattle.hpb_device.specs.Task.{IsTaskOk, bytes_given, bytes_taken, steps_of}
 use Rattle.hpb_device.proofs.Stepping.{is_written, sizes_same}
 
 -- a call failed only where the count of faults rose
-fails_by : (old new : DeviceState) (task : Task) (progress : Progress) (head : Option Task) (result : Stepped) (out : List ℕ) → old.store.faults ≤ new.store.faults
-    → Advances old.store new.store old.held new.held task progress out → Leaves progress head result out
+fails_by : (old new : DeviceState) (task : Task) (others : List Task) (progress : Progress) (result : Stepped) (out : List ℕ) → old.store.faults ≤ new.store.faults
+    → Advances old.store new.store old.held new.held task progress out → Leaves progress others new.tasks new.held result out
     → FailuresWithin old.store.faults new.store.faults (followed_by [] (events_of (group_of result out)))
-fails_by old new task (Shown rest) head result out later advances leaves = rw (leaves.1) (omega (arith, later))
-fails_by old new task (Asked rest) head result out later advances leaves = rw (leaves.1) (omega (arith, later))
-fails_by old new task (Programmed rest) head result out later advances leaves = rw (leaves.1) (omega (arith, later))
-fails_by old new task (Ended reply) head result out later advances leaves = rw (leaves.1) (omega (arith, later))
-fails_by old new task (Failed op reply) head result out later advances leaves = rw (leaves.1) (omega (arith, advances.0.cause))
+fails_by old new task others (Shown rest) result out later advances leaves = rw (leaves.1) (omega (arith, later))
+fails_by old new task others (Told rest) result out later advances leaves = rw (leaves.1) (omega (arith, later))
+fails_by old new task others (Asked rest) result out later advances leaves = rw (leaves.1) (omega (arith, later))
+fails_by old new task others (Programmed rest) result out later advances leaves = rw (leaves.1) (omega (arith, later))
+fails_by old new task others (Ended reply) result out later advances leaves = rw (leaves.2) (omega (arith, later))
+fails_by old new task others (Failed op reply) result out later advances leaves = rw (leaves.2) (omega (arith, advances.0.cause))
 
 pub going_fails : (old new : DeviceState) (result : Stepped) (out : List ℕ) → GoesOn old new result out
     → FailuresWithin old.store.faults new.store.faults (followed_by [] (events_of (group_of result out)))
-going_fails old new result out goes = fails_by old new goes.task goes.progress new.head result out goes.calls.later goes.advances goes.leaves
+going_fails old new result out goes = fails_by old new goes.task goes.others goes.progress result out goes.calls.later goes.advances goes.leaves
 
 -- no block is moved
-moves_by : (progress : Progress) (head : Option Task) (result : Stepped) (out : List ℕ) → Leaves progress head result out → result.moved ≡ None
-moves_by (Shown rest) head result out leaves = ap (λ (r : Stepped). r.moved) leaves.1
-moves_by (Asked rest) head result out leaves = ap (λ (r : Stepped). r.moved) leaves.1
-moves_by (Programmed rest) head result out leaves = ap (λ (r : Stepped). r.moved) leaves.1
-moves_by (Ended reply) head result out leaves = ap (λ (r : Stepped). r.moved) leaves.1
-moves_by (Failed op reply) head result out leaves = ap (λ (r : Stepped). r.moved) leaves.1
+moves_by : (progress : Progress) (others tasks : List Task) (held : List ℕ) (result : Stepped) (out : List ℕ) → Leaves progress others tasks held result out → result.moved ≡ None
+moves_by (Shown rest) others tasks held result out leaves = ap (λ (r : Stepped). r.moved) leaves.1
+moves_by (Told rest) others tasks held result out leaves = ap (λ (r : Stepped). r.moved) leaves.1
+moves_by (Asked rest) others tasks held result out leaves = ap (λ (r : Stepped). r.moved) leaves.1
+moves_by (Programmed rest) others tasks held result out leaves = ap (λ (r : Stepped). r.moved) leaves.1
+moves_by (Ended reply) others tasks held result out leaves = ap (λ (r : Stepped). r.moved) leaves.2
+moves_by (Failed op reply) others tasks held result out leaves = ap (λ (r : Stepped). r.moved) leaves.2
 
 pub going_moves_none : (old new : DeviceState) (result : Stepped) (out : List ℕ) → GoesOn old new result out → result.moved ≡ None
-going_moves_none old new result out goes = moves_by goes.progress new.head result out goes.leaves
+going_moves_none old new result out goes = moves_by goes.progress goes.others new.tasks new.held result out goes.leaves
 
 -- the device has the same sizes behind a step
 pub going_sizes : (old new : DeviceState) (result : Stepped) (out : List ℕ) → GoesOn old new result out → new.shape ≡ old.shape → sizes_of new ≡ sizes_of old
 going_sizes old new result out goes shape = sym (sizes_same old new goes.same shape)
 
 -- a step that sends nothing programs a block of a write that has asked for data
-has_asked_data : (held : List ℕ) (luns units : ℕ) (kept : Task) (task : Waiting) → IsTaskOf held kept task → IsTaskOk luns units kept → 4096 * kept.programmed < kept.come → has_asked (task ∷ []) ≡ true
-has_asked_data held luns units kept task at ok more =
+has_asked_data : (held : List ℕ) (luns units : ℕ) (kept : Task) (task : Waiting) (others : List Waiting) → IsTaskOf held kept task → IsTaskOk luns units kept → 4096 * kept.programmed < kept.come → has_asked (task ∷ others) ≡ true
+has_asked_data held luns units kept task others at ok more =
     let write = is_written kept.command kept.programmed (omega (arith, ok.asked, ok.come, more)) in
     let asked : nat_lt 0 kept.asked ≡ true = grind (arith, nat_tests, ok.come, more) in
     rw (at.command, write.2, at.asked, asked) refl
@@ -77,41 +79,42 @@ has_asked_data held luns units kept task at ok more =
 sent_or_silent : (result : Stepped) (failed : Option ChipOp) → result ≡ stepped failed true → result.sent ≡ false → ⊥
 sent_or_silent result failed is silent = false≢true (sym silent ∙ ap (λ (r : Stepped). r.sent) is)
 
-silent_by : (old new : DeviceState) (task : Task) (progress : Progress) (head : Option Task) (result : Stepped) (out : List ℕ) (tasks : List Waiting) → IsTaskOk old.store.luns old.shape.units task
-    → Advances old.store new.store old.held new.held task progress out → Leaves progress head result out → KeepsTasks (Some task) old.held tasks → result.sent ≡ false → has_asked tasks ≡ true
-silent_by old new task (Shown rest) head result out tasks ok advances leaves keeps silent = absurd (sent_or_silent result _ leaves.1 silent)
-silent_by old new task (Asked rest) head result out tasks ok advances leaves keeps silent = absurd (sent_or_silent result _ leaves.1 silent)
-silent_by old new task (Programmed rest) head result out tasks ok advances leaves keeps silent =
-    subst (λ (ts : List Waiting). has_asked ts ≡ true) (sym keeps.2) (has_asked_data old.held old.store.luns old.shape.units task keeps.0 keeps.1 ok advances.1.more)
-silent_by old new task (Ended reply) head result out tasks ok advances leaves keeps silent = absurd (sent_or_silent result _ leaves.1 silent)
-silent_by old new task (Failed op reply) head result out tasks ok advances leaves keeps silent = absurd (sent_or_silent result _ leaves.1 silent)
+silent_by : (old new : DeviceState) (task : Task) (others : List Task) (progress : Progress) (result : Stepped) (out : List ℕ) (tasks : List Waiting) → IsTaskOk old.store.luns old.shape.units task
+    → Advances old.store new.store old.held new.held task progress out → Leaves progress others new.tasks new.held result out → KeepsTasks (task ∷ others) old.held tasks → result.sent ≡ false → has_asked tasks ≡ true
+silent_by old new task others (Shown rest) result out tasks ok advances leaves keeps silent = absurd (sent_or_silent result _ leaves.1 silent)
+silent_by old new task others (Told rest) result out tasks ok advances leaves keeps silent = absurd (sent_or_silent result _ leaves.1 silent)
+silent_by old new task others (Asked rest) result out tasks ok advances leaves keeps silent = absurd (sent_or_silent result _ leaves.1 silent)
+silent_by old new task others (Programmed rest) result out tasks ok advances leaves keeps silent =
+    subst (λ (ts : List Waiting). has_asked ts ≡ true) (sym keeps.2) (has_asked_data old.held old.store.luns old.shape.units task keeps.0 (map waiting_of others) keeps.1 ok advances.1.more)
+silent_by old new task others (Ended reply) result out tasks ok advances leaves keeps silent = absurd (sent_or_silent result _ leaves.2 silent)
+silent_by old new task others (Failed op reply) result out tasks ok advances leaves keeps silent = absurd (sent_or_silent result _ leaves.2 silent)
 
-pub going_is_silent : (old new : DeviceState) (result : Stepped) (out : List ℕ) (tasks : List Waiting) → GoesOn old new result out → KeepsTasks old.head old.held tasks → result.sent ≡ false → has_asked tasks ≡ true
+pub going_is_silent : (old new : DeviceState) (result : Stepped) (out : List ℕ) (tasks : List Waiting) → GoesOn old new result out → KeepsTasks old.tasks old.held tasks → result.sent ≡ false → has_asked tasks ≡ true
 going_is_silent old new result out tasks goes keeps silent =
-    silent_by old new goes.task goes.progress new.head result out tasks goes.ok goes.advances goes.leaves (subst (λ (h : Option Task). KeepsTasks h old.held tasks) goes.was keeps) silent
+    silent_by old new goes.task goes.others goes.progress result out tasks goes.ok goes.advances goes.leaves (subst (λ (ts : List Task). KeepsTasks ts old.held tasks) goes.was keeps) silent
 
 -- a device is at rest where its tasks are
-goes_by : (head : Option Task) (held : List ℕ) (tasks : List Waiting) → KeepsTasks head held tasks → ¬ MatchOption head ⊤ WaitsForData → at_rest tasks ≡ false
-goes_by None held tasks keeps going = absurd (going tt)
-goes_by (Some kept) held tasks keeps going =
-    let test : nat_lt kept.come kept.asked ≡ false = grind (arith, nat_tests, going) in
+goes_by : (kept : List Task) (held : List ℕ) (tasks : List Waiting) → KeepsTasks kept held tasks → ¬ AreAtRest kept → at_rest tasks ≡ false
+goes_by [] held tasks keeps going = absurd (going tt)
+goes_by (head ∷ others) held tasks keeps going =
+    let test : nat_lt head.come head.asked ≡ false = grind (arith, nat_tests, going) in
     rw (keeps.2, keeps.1.come, keeps.1.asked) test
 
-pub going_tasks : (device : DeviceState) (tasks : List Waiting) → KeepsTasks device.head device.held tasks → ¬ AtRest device → at_rest tasks ≡ false
-going_tasks device tasks keeps going = goes_by device.head device.held tasks keeps going
+pub going_tasks : (device : DeviceState) (tasks : List Waiting) → KeepsTasks device.tasks device.held tasks → ¬ AtRest device → at_rest tasks ≡ false
+going_tasks device tasks keeps going = goes_by device.tasks device.held tasks keeps going
 
-rests_by : (head : Option Task) (held : List ℕ) (tasks : List Waiting) → KeepsTasks head held tasks → MatchOption head ⊤ WaitsForData → at_rest tasks ≡ true
-rests_by None held tasks keeps rests = rw (keeps) refl
-rests_by (Some kept) held tasks keeps rests =
-    let test : nat_lt kept.come kept.asked ≡ true = grind (arith, nat_tests, rests) in
+rests_by : (kept : List Task) (held : List ℕ) (tasks : List Waiting) → KeepsTasks kept held tasks → AreAtRest kept → at_rest tasks ≡ true
+rests_by [] held tasks keeps rests = rw (keeps) refl
+rests_by (head ∷ others) held tasks keeps rests =
+    let test : nat_lt head.come head.asked ≡ true = grind (arith, nat_tests, rests) in
     rw (keeps.2, keeps.1.come, keeps.1.asked) test
 
-pub resting_tasks : (device : DeviceState) (tasks : List Waiting) → KeepsTasks device.head device.held tasks → AtRest device → at_rest tasks ≡ true
-resting_tasks device tasks keeps rests = rests_by device.head device.held tasks keeps rests
+pub resting_tasks : (device : DeviceState) (tasks : List Waiting) → KeepsTasks device.tasks device.held tasks → AtRest device → at_rest tasks ≡ true
+resting_tasks device tasks keeps rests = rests_by device.tasks device.held tasks keeps rests
 
 -- no more steps are left than the tasks need
 few_for : (s : Sizes) (task : Task) (command : Cdb) → 1 ≤ s.erase_block
-    → (bytes_given command - task.sent) / 4096 + (bytes_taken command - task.asked) / 4096 + (bytes_taken command - 4096 * task.programmed) / 4096 + 1 ≤ bound s command
+    → (bytes_given command - task.sent + 4095) / 4096 + (bytes_taken command - task.asked) / 4096 + (bytes_taken command - 4096 * task.programmed) / 4096 + 1 ≤ bound s command
 few_for s task (Read lba n) some = omega arith
 few_for s task (Write lba n) some = let e : 1 * n ≤ s.erase_block * n = mul-le-mul_right n some in let f : 2 * s.erase_block * n ≡ 2 * (s.erase_block * n) = mul_assoc 2 s.erase_block n in omega (arith, e, f)
 few_for s task TestReady some = omega arith
@@ -123,32 +126,62 @@ few_for s task (Prefetch lba id len) some = omega arith
 few_for s task (InactOne region) some = omega arith
 few_for s task InactAll some = omega arith
 
-few_by : (s : Sizes) (head : Option Task) (held : List ℕ) (tasks : List Waiting) → 1 ≤ s.erase_block → KeepsTasks head held tasks → option_map_or steps_of head 0 ≤ enough s tasks
-few_by s None held tasks some keeps = omega arith
-few_by s (Some kept) held tasks some keeps =
-    let few : steps_of kept ≤ bound s kept.command = few_for s kept kept.command some in
-    rw (keeps.2, keeps.1.command) (omega (arith, few))
+pub few_of : (s : Sizes) (task : Task) → 1 ≤ s.erase_block → steps_of task ≤ bound s task.command
+few_of s task some = few_for s task task.command some
 
-pub few_left : (device : DeviceState) (tasks : List Waiting) → 1 ≤ device.store.geometry.pages → KeepsTasks device.head device.held tasks → steps_left device ≤ enough (sizes_of device) tasks
-few_left device tasks some keeps = few_by (sizes_of device) device.head device.held tasks some keeps
+-- sums over the tasks of a device and of its history
+sums_waiting : (f : Task → ℕ) (g : Waiting → ℕ) (others : List Task) → ((task : Task) → f task ≤ g (waiting_of task)) → sum_by f others ≤ sum_by g (map waiting_of others)
+sums_waiting f g [] each = omega arith
+sums_waiting f g (task ∷ others) each =
+    let one = each task in
+    let rest = sums_waiting f g others each in
+    let left = sum_by-cons f task others in
+    let right = sum_by-cons g (waiting_of task) (map waiting_of others) in
+    omega (arith, one, rest, left, right)
+
+sums_first : (f : Task → ℕ) (g : Waiting → ℕ) (head : Task) (others : List Task) (task : Waiting) → ((task : Task) → f task ≤ g (waiting_of task)) → f head ≤ g task
+    → sum_by f (head ∷ others) ≤ sum_by g (task ∷ map waiting_of others)
+sums_first f g head others task each one =
+    let rest = sums_waiting f g others each in
+    let left = sum_by-cons f head others in
+    let right = sum_by-cons g task (map waiting_of others) in
+    omega (arith, one, rest, left, right)
+
+few_by : (s : Sizes) (kept : List Task) (held : List ℕ) (tasks : List Waiting) → 1 ≤ s.erase_block → KeepsTasks kept held tasks → sum_by steps_of kept ≤ sum_by (λ (task : Waiting). bound s task.command) tasks
+few_by s [] held tasks some keeps = omega arith
+few_by s (head ∷ others) held tasks some keeps =
+    let g : Waiting → ℕ = λ task. bound s task.command in
+    let same : bound s keeps.0.command ≡ bound s head.command = ap (bound s) keeps.1.command in
+    let first : steps_of head ≤ g keeps.0 = subst (λ (n : ℕ). steps_of head ≤ n) (sym same) (few_of s head some) in
+    subst (λ (ts : List Waiting). sum_by steps_of (head ∷ others) ≤ sum_by g ts) (sym keeps.2) (sums_first steps_of g head others keeps.0 (λ task. few_of s task some) first)
+
+pub few_left : (device : DeviceState) (tasks : List Waiting) → 1 ≤ device.store.geometry.pages → KeepsTasks device.tasks device.held tasks → steps_left device ≤ enough (sizes_of device) tasks
+few_left device tasks some keeps = let few = few_by (sizes_of device) device.tasks device.held tasks some keeps in omega (arith, few)
+
+-- a command that is kept adds at most its bound
+pub keeps_left : (device : DeviceState) (task : Task) → 1 ≤ device.store.geometry.pages → sum_by steps_of (device.tasks ++ task ∷ []) ≤ steps_left device + bound (sizes_of device) task.command
+keeps_left device task some =
+    let few = few_of (sizes_of device) task some in
+    let more = sum_by_push steps_of device.tasks task in
+    omega (arith, few, more)
 
 -- a device without a task stands at no events, over the unit that its chip has
-pub begins_standing : (device : DeviceState) → device.head ≡ None
+pub begins_standing : (device : DeviceState) → device.tasks ≡ []
     → DeviceStands device (first_of device) []
 begins_standing device none = record {
   tasks = [];
-  keeps = subst (λ (h : Option Task). KeepsTasks h device.held []) (sym none) refl;
-  stands = subst (λ (h : Option Task). Stands (sizes_of device) (first_of device) (record (kept_of device []) { programmed = programmed_of h }) []) (sym none)
+  keeps = subst (λ (ts : List Task). KeepsTasks ts device.held []) (sym none) refl;
+  stands = subst (λ (ts : List Task). Stands (sizes_of device) (first_of device) (record (kept_of device []) { programmed = programmed_of ts }) []) (sym none)
       (stands_begun (sizes_of device) (unit_of device.store.luns device.store.units device.store.pages) (next_seq device.store.pages));
 }
 
 -- a device that doesn't go on is at rest
-rest_by : (head : Option Task) → ((MatchOption head ⊤ WaitsForData → ⊥) → ⊥) → MatchOption head ⊤ WaitsForData
-rest_by None other = tt
-rest_by (Some task) other = let not_over : (task.come < task.asked → ⊥) → ⊥ = other in grind (arith, not_over)
+rest_by : (kept : List Task) → ((AreAtRest kept → ⊥) → ⊥) → AreAtRest kept
+rest_by [] other = tt
+rest_by (head ∷ others) other = let not_over : (head.come < head.asked → ⊥) → ⊥ = other in grind (arith, not_over)
 
 pub at_rest_of : (device : DeviceState) → ((AtRest device → ⊥) → ⊥) → AtRest device
-at_rest_of device other = rest_by device.head other
+at_rest_of device other = rest_by device.tasks other
 
 -- no step tells that the chip isn't ready
 pub other_code : (code : Option ℕ) → code ≡ None → ¬ (code ≡ Some 0x44)
@@ -199,18 +232,19 @@ failed_code (InactOne region) same = absurd (omega (arith, same))
 failed_code InactAll same = absurd (omega (arith, same))
 
 -- the code of the UPIU of a step, if it has one, is of a failed call or of a lack of pages
-tells_by : (old new : DeviceState) (task : Task) (progress : Progress) (head : Option Task) (result : Stepped) (out : List ℕ) → Advances old.store new.store old.held new.held task progress out → Leaves progress head result out
+tells_by : (old new : DeviceState) (task : Task) (others : List Task) (progress : Progress) (result : Stepped) (out : List ℕ) → Advances old.store new.store old.held new.held task progress out → Leaves progress others new.tasks new.held result out
     → result.sent ≡ true → ¬ (sense_code out ≡ Some 0x44)
-tells_by old new task (Shown rest) head result out advances leaves sends = other_code (sense_code out) (ap sense_code advances.0.sent ∙ data_tells_none _ _ _ _)
-tells_by old new task (Asked rest) head result out advances leaves sends = other_code (sense_code out) (ap sense_code advances.1.sent ∙ transfer_tells_none _ _ _ _)
-tells_by old new task (Programmed rest) head result out advances leaves sends = absurd (false≢true (sym (ap (λ (r : Stepped). r.sent) leaves.1) ∙ sends))
-tells_by old new task (Ended reply) head result out advances leaves sends = elim advances.0 [
-  | inl good ↦ other_code (sense_code out) (ap sense_code (leaves.2 ∙ ap (λ (r : Reply). upiu_out (reply_upiu r)) good.1) ∙ good_tells_none _ _ _)
-  | inr full ↦ another_code (sense_code out) 0x27 (ap sense_code (leaves.2 ∙ ap (λ (r : Reply). upiu_out (reply_upiu r)) full.1) ∙ check_tells _ _ _ NoRoom) (λ same. absurd (omega (arith, same)))
+tells_by old new task others (Shown rest) result out advances leaves sends = other_code (sense_code out) (ap sense_code advances.0.sent ∙ data_tells_none _ _ _ _)
+tells_by old new task others (Told rest) result out advances leaves sends = other_code (sense_code out) (ap sense_code advances.0.sent ∙ data_tells_none task.lun task.tag task.sent (capacity_of old.store.units))
+tells_by old new task others (Asked rest) result out advances leaves sends = other_code (sense_code out) (ap sense_code advances.1.sent ∙ transfer_tells_none _ _ _ _)
+tells_by old new task others (Programmed rest) result out advances leaves sends = absurd (false≢true (sym (ap (λ (r : Stepped). r.sent) leaves.1) ∙ sends))
+tells_by old new task others (Ended reply) result out advances leaves sends = elim advances.0 [
+  | inl good ↦ other_code (sense_code out) (ap sense_code (leaves.3 ∙ ap (λ (r : Reply). upiu_out (reply_upiu r)) good.1) ∙ good_tells_none _ _ _)
+  | inr full ↦ another_code (sense_code out) 0x27 (ap sense_code (leaves.3 ∙ ap (λ (r : Reply). upiu_out (reply_upiu r)) full.1) ∙ check_tells _ _ _ NoRoom) (λ same. absurd (omega (arith, same)))
 ]
-tells_by old new task (Failed op reply) head result out advances leaves sends =
-    let tells = ap sense_code (leaves.2 ∙ ap (λ (r : Reply). upiu_out (reply_upiu r)) advances.0.answer) ∙ check_tells _ _ _ (failure_of task.command) in
+tells_by old new task others (Failed op reply) result out advances leaves sends =
+    let tells = ap sense_code (leaves.3 ∙ ap (λ (r : Reply). upiu_out (reply_upiu r)) advances.0.answer) ∙ check_tells _ _ _ (failure_of task.command) in
     another_code (sense_code out) (cause_sense (failure_of task.command)).asc tells (failed_code task.command)
 
 pub going_tells : (old new : DeviceState) (result : Stepped) (out : List ℕ) → GoesOn old new result out → result.sent ≡ true → ¬ (sense_code out ≡ Some 0x44)
-going_tells old new result out goes sends = tells_by old new goes.task goes.progress new.head result out goes.advances goes.leaves sends
+going_tells old new result out goes sends = tells_by old new goes.task goes.others goes.progress result out goes.advances goes.leaves sends

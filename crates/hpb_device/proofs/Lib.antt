@@ -1,6 +1,7 @@
 pub mod Commands
 pub mod Going
 pub mod Harmless
+pub mod Leaving
 pub mod Receiving
 pub mod Replies
 pub mod Stepping

@@ -1,6 +1,7 @@
 -- A device that stands at a history stands at it with the bytes of the host and their answer.
-use Rattle.std.proofs.Common.{◌≡◌, ℕ, ◌+◌, ◌-◌, ◌^◌, ◌<◌, ◌≤◌, true, List, [], ◌∷◌, ◌++◌, length, drop, Option, Some, None, zero, suc, refl, sym, ◌∙◌, ap, subst, arith}
+use Rattle.std.proofs.Common.{◌≡◌, ℕ, ◌+◌, ◌-◌, ◌^◌, ◌<◌, ◌≤◌, true, List, [], ◌∷◌, ◌++◌, map, length, drop, Option, Some, None, refl, sym, ◌∙◌, ap, subst, arith}
 use Rattle.std.proofs.lemmas.List.{length-append, drop-append-le}
+use Rattle.std.specs.List.{AllByRecursion}
 use Rattle.flash_pages.specs.declared.chip.Geometry.{Geometry}
 use Rattle.hpb_cdb.specs.declared.limits.Limits.{Limits}
 use Rattle.upiu_wire.specs.declared.kind.Kind.{Kind}
@@ -24,12 +25,14 @@ use Rattle.hpb_device.specs.declared.reply.Reply.{Reply}
 use Rattle.hpb_device.specs.declared.reply.Reply.TheVariants.{Check}
 use Rattle.hpb_device.specs.declared.reply.Cause.TheVariants.{DataNotAsked}
 use Rattle.hpb_device.specs.Accept.{IsBegun, IsKept, IsTaken, IsAnswered}
-use Rattle.hpb_device.specs.Keeps.{KeepsTasks, IsTaskOf}
+use Rattle.hpb_device.specs.Keeps.{KeepsTasks, IsTaskOf, waiting_of}
 use Rattle.hpb_device.specs.Limits.{limits_of}
 use Rattle.hpb_device.specs.Reply.{reply_upiu}
 use Rattle.hpb_device.specs.Sizes.{sizes}
 use Rattle.hpb_device.specs.Standing.{sizes_of, kept_of, programmed_of, DeviceStands}
 use Rattle.hpb_device.specs.State.{DeviceState}
+use Rattle.hpb_device.specs.Task.{IsWaiting, IsQueue}
+use Rattle.hpb_device.proofs.Stepping.{keeps_waiting, none_programmed}
 
 -- no request but a command does anything
 pub no_effects : (luns : ℕ) (lim : Limits) (geometry : Geometry) (tasks : List Waiting) (bytes : List ℕ) → effects_of (sizes luns lim geometry) true tasks bytes ≡ []
@@ -45,40 +48,59 @@ no_effects luns lim geometry tasks bytes = by_fault (wire_fault_of bytes)
     by_fault (Some fault) = refl
     by_fault None = by_kind (upiu_at bytes).kind
 
-drop-nil : (n : ℕ) → drop {A = ℕ} n [] ≡ []
-drop-nil zero = refl
-drop-nil (suc n) = refl
+waiting_more : (others : List Task) (task : Task) → map waiting_of (others ++ task ∷ []) ≡ map waiting_of others ++ waiting_of task ∷ []
+waiting_more [] task = refl
+waiting_more (next ∷ others) task = ap (λ (ts : List Waiting). waiting_of next ∷ ts) (waiting_more others task)
+
+-- a command is kept last in order
+keeps_more : (luns units : ℕ) (kept : List Task) (held : List ℕ) (tasks : List Waiting) (task : Task) → IsQueue luns units held kept → IsWaiting luns units task
+    → KeepsTasks kept held tasks → KeepsTasks (kept ++ task ∷ []) held (tasks ++ waiting_of task ∷ [])
+keeps_more luns units [] held tasks task queue is keeps =
+    let all : AllByRecursion (IsWaiting luns units) (task ∷ []) = (is, tt) in
+    subst (λ (h : List ℕ). KeepsTasks (task ∷ []) h (tasks ++ waiting_of task ∷ [])) (sym queue)
+    (subst (λ (ts : List Waiting). KeepsTasks (task ∷ []) [] (ts ++ waiting_of task ∷ [])) (sym keeps) (keeps_waiting luns units (task ∷ []) all))
+keeps_more luns units (head ∷ others) held tasks task queue is keeps =
+    (keeps.0, keeps.1, ap (λ (ts : List Waiting). ts ++ waiting_of task ∷ []) keeps.2 ∙ ap (λ (ts : List Waiting). keeps.0 ∷ ts) (sym (waiting_more others task)))
+
+programmed_more : (luns units : ℕ) (kept : List Task) (task : Task) → IsWaiting luns units task → programmed_of kept ≡ programmed_of (kept ++ task ∷ [])
+programmed_more luns units [] task is = sym is.none_programmed
+programmed_more luns units (head ∷ others) task is = refl
+
+-- a command of which nothing is done yet
+pub waits_begun : (lim : Limits) (luns : ℕ) (upiu : Upiu) (task : Task) → IsBegun lim luns upiu task → IsWaiting luns lim.units task
+waits_begun lim luns upiu task begun = record {
+  ok = begun.task_ok;
+  none_asked = ap (λ (t : Task). t.asked) begun.task_is;
+  none_come = ap (λ (t : Task). t.come) begun.task_is;
+  none_sent = ap (λ (t : Task). t.sent) begun.task_is;
+  none_programmed = ap (λ (t : Task). t.programmed) begun.task_is;
+}
 
 -- a command is kept
-pub stands_kept : (d : DeviceState) (task : Task) (bytes : List ℕ) (lim : Limits) (luns : ℕ) (first : First) (e : History) → d.head ≡ None → IsBegun lim luns (upiu_at bytes) task
-    → ((tasks : List Waiting) → KeepsTasks d.head d.held tasks → IsKept (sizes_of d) tasks bytes task)
-    → DeviceStands d first e → DeviceStands (record d { head = Some task; held = [] }) first (e ▹ Host bytes)
-stands_kept d task bytes lim luns first e none begun follows at =
+pub stands_kept : (d : DeviceState) (task : Task) (bytes : List ℕ) (lim : Limits) (luns : ℕ) (first : First) (e : History) → IsQueue luns lim.units d.held d.tasks → IsBegun lim luns (upiu_at bytes) task
+    → ((tasks : List Waiting) → KeepsTasks d.tasks d.held tasks → IsKept (sizes_of d) tasks bytes task)
+    → DeviceStands d first e → DeviceStands (record d { tasks = d.tasks ++ task ∷ [] }) first (e ▹ Host bytes)
+stands_kept d task bytes lim luns first e queue begun follows at =
     let kept = follows at.tasks at.keeps in
     let v = upiu_at bytes in
-    let empty : at.tasks ≡ [] = subst (λ (h : Option Task). KeepsTasks h d.held at.tasks) none at.keeps in
     let now = stands_accepted (sizes_of d) first (kept_of d at.tasks) e bytes task.command kept.silent kept.kind kept.command at.stands in
+    let waits = waits_begun lim luns v task begun in
+    let same : task_of v task.command ≡ waiting_of task = λ i. record {
+      lun = sym (ap (λ (t : Task). t.lun) begun.task_is) i;
+      tag = sym (ap (λ (t : Task). t.tag) begun.task_is) i;
+      command = task.command;
+      expected = sym (ap (λ (t : Task). t.expected) begun.task_is) i;
+      asked = 0;
+      come = [];
+      sent = 0;
+    } in
     let P : List Waiting → ℕ → Type 0 =
     λ tasks programmed. Stands (sizes_of d) first (record (kept_of d tasks) { programmed = programmed }) (e ▹ Host bytes) in
-    let fresh : programmed_of d.head ≡ task.programmed =
-    ap programmed_of none ∙ ap (λ (t : Task). t.programmed) (sym begun.task_is) in
     record {
-      tasks = task_of v task.command ∷ [];
-      keeps = (
-        task_of v task.command,
-        record {
-          lun = ap (λ (t : Task). t.lun) (sym begun.task_is);
-          tag = ap (λ (t : Task). t.tag) (sym begun.task_is);
-          command = refl;
-          expected = ap (λ (t : Task). t.expected) (sym begun.task_is);
-          asked = ap (λ (t : Task). t.asked) (sym begun.task_is);
-          come = ap (λ (t : Task). t.come) (sym begun.task_is);
-          last = drop-nil (task.come - length {A = ℕ} []);
-          sent = ap (λ (t : Task). t.sent) (sym begun.task_is);
-        },
-        refl,
-      );
-      stands = subst (λ (n : ℕ). P (task_of v task.command ∷ []) n) fresh (subst (λ (tasks : List Waiting). P tasks (programmed_of d.head)) (ap (λ (ts : List Waiting). ts ++ task_of v task.command ∷ []) empty) now);
+      tasks = at.tasks ++ waiting_of task ∷ [];
+      keeps = keeps_more luns lim.units d.tasks d.held at.tasks task queue waits at.keeps;
+      stands = subst (λ (n : ℕ). P (at.tasks ++ waiting_of task ∷ []) n) (programmed_more luns lim.units d.tasks task waits)
+          (subst (λ (t : Waiting). P (at.tasks ++ t ∷ []) (programmed_of d.tasks)) same now);
     }
 
 -- data are added to the head
@@ -109,29 +131,30 @@ data_kept held segment kept task part at = record {
         ap (λ (n : ℕ). drop n (task.come ++ segment)) same
         ∙ (drop-append-le before task.come segment inside ∙ ap (λ (xs : List ℕ). xs ++ segment) at.last)
 
-pub stands_with_data : (d : DeviceState) (kept : Task) (bytes segment : List ℕ) (first : First) (e : History) → d.head ≡ Some kept → length d.held ≤ kept.come
-    → ((tasks : List Waiting) → KeepsTasks d.head d.held tasks → IsTaken (sizes_of d) tasks bytes segment)
-    → DeviceStands d first e → DeviceStands (record d { head = Some (record kept { come = kept.come + length segment }); held = d.held ++ segment }) first (e ▹ Host bytes)
-stands_with_data d kept bytes segment first e is part follows at =
+pub stands_with_data : (d : DeviceState) (kept : Task) (others : List Task) (bytes segment : List ℕ) (first : First) (e : History) → d.tasks ≡ kept ∷ others → length d.held ≤ kept.come
+    → ((tasks : List Waiting) → KeepsTasks d.tasks d.held tasks → IsTaken (sizes_of d) tasks bytes segment)
+    → DeviceStands d first e → DeviceStands (record d { tasks = record kept { come = kept.come + length segment } ∷ others; held = d.held ++ segment }) first (e ▹ Host bytes)
+stands_with_data d kept others bytes segment first e is part follows at =
     let taken = follows at.tasks at.keeps in
-    let keeps = subst (λ (h : Option Task). KeepsTasks h d.held at.tasks) is at.keeps in
+    let keeps = subst (λ (ts : List Task). KeepsTasks ts d.held at.tasks) is at.keeps in
     let task = keeps.0 in
-    let alone : at.tasks ≡ task ∷ [] = keeps.2 in
+    let ws = map waiting_of others in
+    let alone : at.tasks ≡ task ∷ ws = keeps.2 in
     let s = sizes_of d in
-    let standing : Stands s first (kept_of d (task ∷ [])) e = subst (λ (ts : List Waiting). Stands s first (kept_of d ts) e) alone at.stands in
-    let silent : reply_of s true (task ∷ []) bytes ≡ None = subst (λ (ts : List Waiting). reply_of s true ts bytes ≡ None) alone taken.silent in
-    let now = stands_taken s first (kept_of d (task ∷ [])) e bytes task [] silent taken.kind standing in
+    let standing : Stands s first (kept_of d (task ∷ ws)) e = subst (λ (ts : List Waiting). Stands s first (kept_of d ts) e) alone at.stands in
+    let silent : reply_of s true (task ∷ ws) bytes ≡ None = subst (λ (ts : List Waiting). reply_of s true ts bytes ≡ None) alone taken.silent in
+    let now = stands_taken s first (kept_of d (task ∷ ws)) e bytes task ws silent taken.kind standing in
     let P : List ℕ → ℕ → Type 0 =
-    λ more programmed. Stands s first (record (kept_of d (with_data more task ∷ [])) { programmed = programmed }) (e ▹ Host bytes) in
+    λ more programmed. Stands s first (record (kept_of d (with_data more task ∷ ws)) { programmed = programmed }) (e ▹ Host bytes) in
     record {
-      tasks = with_data segment task ∷ [];
+      tasks = with_data segment task ∷ ws;
       keeps = (with_data segment task, data_kept d.held segment kept task part keeps.1, refl);
-      stands = subst (λ (n : ℕ). P segment n) (ap programmed_of is) (subst (λ (xs : List ℕ). P xs (programmed_of d.head)) (sym taken.segment_is) now);
+      stands = subst (λ (n : ℕ). P segment n) (ap programmed_of is) (subst (λ (xs : List ℕ). P xs (programmed_of d.tasks)) (sym taken.segment_is) now);
     }
 
 -- a reply ends no task
 pub stands_with_reply : (d : DeviceState) (bytes : List ℕ) (reply : Reply) (out : List ℕ) (first : First) (e : History) → out ≡ upiu_out (reply_upiu reply)
-    → ((tasks : List Waiting) → KeepsTasks d.head d.held tasks → IsAnswered (sizes_of d) tasks bytes reply)
+    → ((tasks : List Waiting) → KeepsTasks d.tasks d.held tasks → IsAnswered (sizes_of d) tasks bytes reply)
     → DeviceStands d first e → DeviceStands d first (e ▹ Host bytes ▹ Device out)
 stands_with_reply d bytes reply out first e is follows at =
     let answered = follows at.tasks at.keeps in
@@ -145,27 +168,29 @@ stands_with_reply d bytes reply out first e is follows at =
     }
 
 -- data that weren't asked for end the head
-pub stands_without_head : (d : DeviceState) (kept : Task) (bytes out : List ℕ) (residual : ℕ) (first : First) (e : History) → d.head ≡ Some kept → residual < 2 ^ 32
+pub stands_without_head : (d : DeviceState) (kept : Task) (others : List Task) (bytes out : List ℕ) (residual luns units : ℕ) (first : First) (e : History) → d.tasks ≡ kept ∷ others → AllByRecursion (IsWaiting luns units) others → residual < 2 ^ 32
     → out ≡ upiu_out (reply_upiu (Check kept.lun kept.tag residual DataNotAsked))
-    → ((tasks : List Waiting) → KeepsTasks d.head d.held tasks → reply_of (sizes_of d) true tasks bytes ≡ Some (reply_upiu (Check kept.lun kept.tag residual DataNotAsked)))
-    → DeviceStands d first e → DeviceStands (record d { head = None }) first (e ▹ Host bytes ▹ Device out)
-stands_without_head d kept bytes out residual first e is fits sent follows at =
-    let keeps = subst (λ (h : Option Task). KeepsTasks h d.held at.tasks) is at.keeps in
+    → ((tasks : List Waiting) → KeepsTasks d.tasks d.held tasks → reply_of (sizes_of d) true tasks bytes ≡ Some (reply_upiu (Check kept.lun kept.tag residual DataNotAsked)))
+    → DeviceStands d first e → DeviceStands (record d { tasks = others; held = [] }) first (e ▹ Host bytes ▹ Device out)
+stands_without_head d kept others bytes out residual luns units first e is waiting fits sent follows at =
+    let keeps = subst (λ (ts : List Task). KeepsTasks ts d.held at.tasks) is at.keeps in
     let task = keeps.0 in
-    let alone : at.tasks ≡ task ∷ [] = keeps.2 in
+    let ws = map waiting_of others in
+    let alone : at.tasks ≡ task ∷ ws = keeps.2 in
     let s = sizes_of d in
-    let standing : Stands s first (kept_of d (task ∷ [])) e = subst (λ (ts : List Waiting). Stands s first (kept_of d ts) e) alone at.stands in
+    let standing : Stands s first (kept_of d (task ∷ ws)) e = subst (λ (ts : List Waiting). Stands s first (kept_of d ts) e) alone at.stands in
     let end = check task.lun task.tag residual wrong_data in
     let same : reply_upiu (Check kept.lun kept.tag residual DataNotAsked) ≡ end =
     ap (λ (lun : ℕ). check lun kept.tag residual wrong_data) (sym keeps.1.lun) ∙ ap (λ (tag : ℕ). check task.lun tag residual wrong_data) (sym keeps.1.tag) in
-    let answers : reply_of s true (task ∷ []) bytes ≡ Some end =
+    let answers : reply_of s true (task ∷ ws) bytes ≡ Some end =
     subst (λ (ts : List Waiting). reply_of s true ts bytes ≡ Some end) alone (follows at.tasks at.keeps ∙ ap (λ (u : Upiu). Some u) same) in
-    let none = no_effects d.store.luns (limits_of d.shape) d.store.geometry (task ∷ []) bytes in
-    let now = stands_refused s first (kept_of d (task ∷ [])) e bytes task [] residual answers none fits standing in
+    let none = no_effects d.store.luns (limits_of d.shape) d.store.geometry (task ∷ ws) bytes in
+    let now = stands_refused s first (kept_of d (task ∷ ws)) e bytes task ws residual answers none fits standing in
+    let P : ℕ → List ℕ → Type 0 = λ n b. Stands s first (record (kept_of d ws) { programmed = n }) (e ▹ Host bytes ▹ Device b) in
     record {
-      tasks = [];
-      keeps = refl;
-      stands = subst (λ (b : List ℕ). Stands s first (record (kept_of d []) { programmed = 0 }) (e ▹ Host bytes ▹ Device b)) (sym (sent ∙ ap upiu_out same)) now;
+      tasks = ws;
+      keeps = keeps_waiting luns units others waiting;
+      stands = subst (λ (n : ℕ). P n out) (sym (none_programmed luns units others waiting)) (subst (P 0) (sym (sent ∙ ap upiu_out same)) now);
     }
 
 -- the events that a reply owes
@@ -178,9 +203,9 @@ pub owes_nothing : (s : Sizes) (tasks : List Waiting) (bytes : List ℕ) → rep
 owes_nothing s tasks bytes is = ap (reply_events (effects_of s true tasks bytes)) is
 
 -- a device is what its parts are
-pub device_is : (d now : DeviceState) (head : Option Task) (held : List ℕ) → now.store ≡ d.store → now.shape ≡ d.shape → now.head ≡ head → now.held ≡ held → record d { head = head; held = held } ≡ now
-device_is d now head held store shape is_head is_held =
-    λ i. record { store = sym store i; shape = sym shape i; head = sym is_head i; held = sym is_held i }
+pub device_is : (d now : DeviceState) (tasks : List Task) (held : List ℕ) → now.store ≡ d.store → now.shape ≡ d.shape → now.tasks ≡ tasks → now.held ≡ held → record d { tasks = tasks; held = held } ≡ now
+device_is d now tasks held store shape is_tasks is_held =
+    λ i. record { store = sym store i; shape = sym shape i; tasks = sym is_tasks i; held = sym is_held i }
 
 -- the sizes are those of the limits and of the count of units
 pub sizes_are : (d : DeviceState) (lim : Limits) (luns : ℕ) → lim ≡ limits_of d.shape → d.store.luns ≡ luns → sizes luns lim d.store.geometry ≡ sizes_of d

@@ -1,5 +1,5 @@
 -- What comes of bytes of the host.
-use Rattle.std.specs.Prelude.{⊤, ◌≡◌, ℕ, ◌+◌, ◌^◌, ◌<◌, ◌≤◌, Bool, true, not, ◌==◌, ◌&&◌, nat_le, List, length, Option, Some, None, Result, Ok, Err}
+use Rattle.std.specs.Prelude.{⊤, ◌≡◌, ℕ, ◌+◌, ◌^◌, ◌<◌, ◌≤◌, Bool, true, not, ◌==◌, ◌&&◌, nat_le, List, [], ◌∷◌, length, Some, None, Result, Ok, Err}
 use Rattle.hpb_cdb.specs.declared.limits.Limits.{Limits}
 use Rattle.hpb_cdb.specs.Cdb.{IsCdb}
 use Rattle.upiu_wire.specs.Upiu.{Upiu, upiu_at}
@@ -17,6 +17,7 @@ use Rattle.hpb_cdb.specs.declared.fault.CdbFault.{CdbFault}
 use Rattle.hpb_device.specs.declared.reply.Cause.{Cause}
 use Rattle.hpb_device.specs.Reply.{reply_upiu, cause_sense}
 use Rattle.hpb_device.specs.declared.task.Task.{Task}
+use Rattle.hpb_device.specs.declared.task.TheConstants.{TASKS}
 use Rattle.hpb_device.specs.declared.reply.Reply.{Reply}
 use Rattle.hpb_device.specs.declared.accept.Verdict.{Verdict}
 use Rattle.hpb_device.specs.declared.accept.Verdict.TheVariants.{Keep, Data, Answer, End}
@@ -38,15 +39,23 @@ abbrev pub goes_on : Task → Upiu → Bool
 goes_on task upiu =
     (upiu.first == task.come) && ((upiu.count == length upiu.segment) && (not (upiu.count == 0) && nat_le (task.come + upiu.count) task.asked))
 
--- a command is kept where none is, and data are taken where the task waits for them
-abbrev pub IsVerdict : Limits → ℕ → Option Task → Upiu → Verdict → Type 0
-IsVerdict lim luns head upiu (Keep task) = (head ≡ None) × IsBegun lim luns upiu task
-IsVerdict lim luns (Some task) upiu (Data segment) = IsNextPiece task segment.now × (segment.now ≡ upiu.segment)
-IsVerdict lim luns None upiu (Data segment) = ⊥
-IsVerdict lim luns head upiu (Answer reply) = ⊤
-IsVerdict lim luns (Some task) upiu (End reply) =
-    WaitsForData task × ((residual : ℕ) × (residual < 2 ^ 32) × (reply ≡ Check task.lun task.tag residual DataNotAsked))
-IsVerdict lim luns None upiu (End reply) = ⊥
+-- data are taken where the first task waits for them
+abbrev pub TakesPiece : List Task → Upiu → List ℕ → Type 0
+TakesPiece [] upiu segment = ⊥
+TakesPiece (head ∷ _) upiu segment = IsNextPiece head segment × (segment ≡ upiu.segment)
+
+-- the first task waits for other data, and is answered
+abbrev pub EndsFirst : List Task → Reply → Type 0
+EndsFirst [] reply = ⊥
+EndsFirst (head ∷ _) reply =
+    WaitsForData head × ((residual : ℕ) × (residual < 2 ^ 32) × (reply ≡ Check head.lun head.tag residual DataNotAsked))
+
+-- a command is kept where there is room
+abbrev pub IsVerdict : Limits → ℕ → List Task → Upiu → Verdict → Type 0
+IsVerdict lim luns tasks upiu (Keep task) = (length tasks < TASKS) × IsBegun lim luns upiu task
+IsVerdict lim luns tasks upiu (Data segment) = TakesPiece tasks upiu segment.now
+IsVerdict lim luns tasks upiu (Answer reply) = ⊤
+IsVerdict lim luns tasks upiu (End reply) = EndsFirst tasks reply
 
 -- the command of a CDB, or why it is refused
 abbrev pub IsCommandOf : Sizes → List ℕ → Result Cdb Cause → Type 0

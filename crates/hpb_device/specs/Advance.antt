@@ -1,5 +1,6 @@
--- What one step makes of the command that is kept.
-use Rattle.std.specs.Prelude.{◌≡◌, ◌⊎◌, ℕ, ◌+◌, ◌-◌, ◌*◌, ◌/◌, ◌<◌, ◌≤◌, ⊤, List, [], length, min, slice_range, slice_set}
+-- What one step makes of the first task.
+use Rattle.std.specs.Prelude.{◌≡◌, ◌⊎◌, ℕ, ◌+◌, ◌-◌, ◌*◌, ◌/◌, ◌<◌, ◌≤◌, ⊤, List, [], ◌++◌, length, min, slice_range, slice_set}
+use Rattle.byteorder.specs.Endian.{big_bytes}
 use Rattle.hpb_outside.specs.Faults.{Rose, raised}
 use Rattle.flash_pages.specs.declared.chip.TheConstants.{BLOCK_BYTES}
 use Rattle.flash_pages.specs.declared.chip.ChipOp.{ChipOp}
@@ -9,18 +10,18 @@ use Rattle.flash_pages.specs.Chip.{erased_count}
 use Rattle.flash_pages.specs.Unit.{block_of, unit_of, next_seq}
 use Rattle.flash_store.specs.Store.{StoreState, ProgramsBlock}
 use Rattle.hpb_cdb.specs.declared.cdb.Cdb.{Cdb}
-use Rattle.hpb_cdb.specs.declared.cdb.Cdb.TheVariants.{Read, Write}
+use Rattle.hpb_cdb.specs.declared.cdb.Cdb.TheVariants.{Read, Write, Capacity}
 use Rattle.upiu_wire.specs.declared.kind.Kind.TheVariants.{DataIn, ReadyToTransfer}
 use Rattle.upiu_wire.specs.Upiu.{upiu_out}
 use Rattle.upiu_wire.specs.Written.{data_upiu, transfer_upiu}
 use Rattle.hpb_device.specs.declared.task.Task.{Task}
-use Rattle.hpb_device.specs.declared.task.TheConstants.{BURST_BYTES}
+use Rattle.hpb_device.specs.declared.task.TheConstants.{BURST_BYTES, CAPACITY_BYTES}
 use Rattle.hpb_device.specs.declared.reply.Cause.{Cause}
 use Rattle.hpb_device.specs.declared.reply.Cause.TheVariants.{ReadFailed, WriteFailed, NoRoom}
 use Rattle.hpb_device.specs.declared.reply.Reply.{Reply}
 use Rattle.hpb_device.specs.declared.reply.Reply.TheVariants.{Good, Check}
 use Rattle.hpb_device.specs.declared.advance.Progress.{Progress}
-use Rattle.hpb_device.specs.declared.advance.Progress.TheVariants.{Shown, Asked, Programmed, Ended, Failed}
+use Rattle.hpb_device.specs.declared.advance.Progress.TheVariants.{Shown, Told, Asked, Programmed, Ended, Failed}
 use Rattle.hpb_device.specs.Task.{bytes_given, bytes_taken}
 
 -- the first block that a command names
@@ -49,10 +50,22 @@ call_of _ = ProgramCall
 
 -- the next block of a read was sent
 pub record Shows (old : StoreState) (task rest : Task) (out : List ℕ) : Type 0 where
+  pub read : (lba : ℕ) × (n : ℕ) × (task.command ≡ Read lba n)
   pub more : task.sent < bytes_given task.command
   pub size : length (block_of old.pages (nth_place task (task.sent / BLOCK_BYTES))) ≡ BLOCK_BYTES
   pub sent : out ≡ upiu_out (data_upiu DataIn task.lun task.tag task.sent (block_of old.pages (nth_place task (task.sent / BLOCK_BYTES))))
   pub task_is : rest ≡ record task { sent = task.sent + BLOCK_BYTES }
+
+-- the LBA of the last block of a unit, and the bytes of a block (SBC, READ CAPACITY (10))
+abbrev pub capacity_of : ℕ → List ℕ
+capacity_of units = big_bytes 4 (units - 1) ++ big_bytes 4 BLOCK_BYTES
+
+-- the capacity of the unit was sent
+pub record Tells (units : ℕ) (task rest : Task) (out : List ℕ) : Type 0 where
+  pub command : task.command ≡ Capacity
+  pub none_sent : task.sent ≡ 0
+  pub sent : out ≡ upiu_out (data_upiu DataIn task.lun task.tag task.sent (capacity_of units))
+  pub task_is : rest ≡ record task { sent = CAPACITY_BYTES }
 
 -- the next data of a write were asked for
 pub record Asks (task rest : Task) (count : ℕ) (out : List ℕ) : Type 0 where
@@ -89,8 +102,15 @@ EndsWith old task reply =
     (IsComplete task × (reply ≡ Good task.lun task.tag (task.expected - task.sent - task.come)))
     ⊎ (HasNoRoom old task × (reply ≡ check task NoRoom))
 
+-- a command that reads or programs blocks
+abbrev pub MovesBlocks : Cdb → Type 0
+MovesBlocks (Read lba n) = Unit {0}
+MovesBlocks (Write lba n) = Unit {0}
+MovesBlocks _ = ⊥
+
 -- a call of the chip failed
 pub record Fails (old new : StoreState) (task : Task) (op : ChipOp) (reply : Reply) : Type 0 where
+  pub moves : MovesBlocks task.command
   pub cause : Rose old.faults new.faults
   pub call : op ≡ call_of task.command
   pub answer : reply ≡ check task (failure_of task.command)
@@ -98,6 +118,7 @@ pub record Fails (old new : StoreState) (task : Task) (op : ChipOp) (reply : Rep
 -- What a step of a command came to. `start` is where the next block stands in the data that are held.
 abbrev pub Advances : (old new : StoreState) → (held held_now : List ℕ) → Task → Progress → (out : List ℕ) → Type 0
 Advances old new held held_now task (Shown rest) out = Shows old task rest out × (new.pages ≡ old.pages) × (held_now ≡ held)
+Advances old new held held_now task (Told rest) out = Tells old.units task rest out × (new ≡ old) × (held_now ≡ held)
 Advances old new held held_now task (Asked rest) out = (count : ℕ) × Asks task rest count out × (new ≡ old) × (held_now ≡ [])
 Advances old new held held_now task (Programmed rest) out = (start : ℕ) × Programs old new held task rest start × (held_now ≡ held)
 Advances old new held held_now task (Ended reply) out = EndsWith old task reply × (new.pages ≡ old.pages)
@@ -117,6 +138,7 @@ pub record MakesACallAtMost (old new : StoreState) : Type 0 where
 -- the command that is kept after a step, where it is kept, is so
 abbrev pub AllTasks : (Task → Type 0) → Progress → Type 0
 AllTasks P (Shown rest) = P rest
+AllTasks P (Told rest) = P rest
 AllTasks P (Asked rest) = P rest
 AllTasks P (Programmed rest) = P rest
 AllTasks P (Ended reply) = ⊤

@@ -1,5 +1,5 @@
 -- The tasks of a history that a device keeps.
-use Rattle.std.specs.Prelude.{◌≡◌, ℕ, ◌-◌, List, [], ◌∷◌, length, drop, Option, Some, None}
+use Rattle.std.specs.Prelude.{◌≡◌, ℕ, ◌-◌, List, [], ◌∷◌, map, length, drop}
 use Rattle.flat_unit.specs.Task.{Task}
 use Rattle.hpb_device.specs.declared.task.Task.{Task as Kept}
 
@@ -14,6 +14,12 @@ pub record IsTaskOf (held : List ℕ) (kept : Kept) (task : Task) : Type 0 where
   pub last : drop (kept.come - length held) task.come ≡ held
   pub sent : task.sent ≡ kept.sent
 
-abbrev pub KeepsTasks : Option Kept → List ℕ → List Task → Type 0
-KeepsTasks None held tasks = tasks ≡ []
-KeepsTasks (Some kept) held tasks = (task : Task) × IsTaskOf held kept task × (tasks ≡ task ∷ [])
+-- the task of which nothing is done yet
+abbrev pub waiting_of : Kept → Task
+waiting_of kept =
+    record { lun = kept.lun; tag = kept.tag; command = kept.command; expected = kept.expected; asked = 0; come = []; sent = 0 }
+
+-- the first task has come as far as the device says, and nothing is done yet for the others
+abbrev pub KeepsTasks : List Kept → List ℕ → List Task → Type 0
+KeepsTasks [] held tasks = tasks ≡ []
+KeepsTasks (kept ∷ others) held tasks = (task : Task) × IsTaskOf held kept task × (tasks ≡ task ∷ map waiting_of others)

@@ -1,24 +1,29 @@
 -- The sizes of a device, by which its history is judged.
-use Rattle.std.specs.Prelude.{ℕ, ◌+◌, ◌*◌, false, [], ◌∷◌}
+use Rattle.std.specs.Prelude.{ℕ, ◌+◌, ◌*◌, false, List, [], ◌∷◌}
 use Rattle.flash_pages.specs.declared.chip.TheConstants.{BLOCK_BYTES}
 use Rattle.flash_pages.specs.declared.chip.Geometry.{Geometry}
 use Rattle.hpb_cdb.specs.declared.limits.Limits.{Limits}
 use Rattle.flat_unit.specs.Sizes.{Sizes}
+use Rattle.hpb_device.specs.declared.task.TheConstants.{TASKS}
 
--- One task is kept, READ(10) and WRITE(10) are served, and no page is looked at before the first command. Nothing is
--- collected, so a write finds no page once all of them are programmed.
+-- the opcodes of the commands that are served (SBC, SPC)
+abbrev pub OPCODES : List ℕ
+OPCODES = 0x00 ∷ 0x25 ∷ 0x28 ∷ 0x2A ∷ 0x35 ∷ []
+
+-- TEST UNIT READY, READ CAPACITY(10), READ(10), WRITE(10) and SYNCHRONIZE CACHE(10) are served, and no page is looked at
+-- before the first command. Nothing is collected, so a write finds no page once all of them are programmed.
 abbrev pub sizes : ℕ → Limits → Geometry → Sizes
 sizes luns lim geometry = record {
   luns = luns;
   units = lim.units;
   block = BLOCK_BYTES;
-  room = 1;
+  room = TASKS;
   pages = 0;
   erase_block = geometry.pages;
   per_region = lim.per_region;
   per_sub = lim.per_sub;
   full_at = geometry.blocks * geometry.pages + 1;
-  opcodes = 0x28 ∷ 0x2A ∷ [];
+  opcodes = OPCODES;
   queries = false;
   manages = false;
 }

@@ -1,6 +1,6 @@
 -- Where a device stands in a history.
 use Rattle.std.specs.Prelude.{ℕ, true, List, [], ◌∷◌, Option, Some, None, if◌then◌else◌}
-use Rattle.std.specs.Option.{option_map, option_map_or}
+use Rattle.std.specs.Option.{option_map}
 use Rattle.flash_pages.specs.Unit.{unit_of, next_seq}
 use Rattle.flat_unit.specs.declared.event.Event.{Event}
 use Rattle.flat_unit.specs.declared.event.Event.TheVariants.{Device}
@@ -21,9 +21,10 @@ use Rattle.hpb_device.specs.State.{DeviceState}
 abbrev pub sizes_of : DeviceState → Sizes
 sizes_of device = sizes device.store.luns (limits_of device.shape) device.store.geometry
 
--- the blocks of the head that were programmed
-abbrev pub programmed_of : Option Task → ℕ
-programmed_of head = option_map_or (λ (task : Task). task.programmed) head 0
+-- the blocks of the first task that were programmed
+abbrev pub programmed_of : List Task → ℕ
+programmed_of [] = 0
+programmed_of (head ∷ _) = head.programmed
 
 -- what a device keeps, with these tasks
 abbrev pub kept_of : DeviceState → List Waiting → Kept
@@ -31,7 +32,7 @@ kept_of device tasks = record {
   tasks = tasks;
   on = true;
   unit = unit_of device.store.luns device.store.units device.store.pages;
-  programmed = programmed_of device.head;
+  programmed = programmed_of device.tasks;
   next = next_seq device.store.pages;
 }
 
@@ -42,7 +43,7 @@ first_of device = record { unit = unit_of device.store.luns device.store.units d
 -- the device keeps the tasks of the history, and stands at it
 pub record DeviceStands (device : DeviceState) (first : First) (e : History) : Type 0 where
   pub tasks : List Waiting
-  pub keeps : KeepsTasks device.head device.held tasks
+  pub keeps : KeepsTasks device.tasks device.held tasks
   pub stands : Stands (sizes_of device) first (kept_of device tasks) e
 
 -- the events that answer the bytes of the host at once

@@ -1,6 +1,5 @@
 -- What a device is, to those who call it, and what it keeps true of its fields.
-use Rattle.std.specs.Prelude.{⊤, ◌≡◌, ℕ, ◌≤◌, List, Option, MatchOption, IfSome}
-use Rattle.std.specs.Option.{option_map_or}
+use Rattle.std.specs.Prelude.{⊤, ◌≡◌, ℕ, ◌+◌, ◌≤◌, List, [], ◌∷◌, ◌++◌, sum_by}
 use Rattle.hpb_outside.specs.declared.errors.NewFault.{NewFault}
 use Rattle.hpb_outside.specs.declared.errors.NewFault.TheVariants as fault
 use Rattle.flash_pages.specs.declared.chip.Geometry.{Geometry}
@@ -9,26 +8,30 @@ use Rattle.region_state.specs.declared.shape.Shape.{Shape}
 use Rattle.region_state.specs.Shape.{IsWithinLimits}
 use Rattle.hpb_device.specs.declared.task.Task.{Task}
 use Rattle.hpb_device.specs.declared.task.TheConstants.{BURST_BYTES}
-use Rattle.hpb_device.specs.Task.{WaitsForData, IsTaskOk, HoldsData, steps_of}
+use Rattle.hpb_device.specs.Task.{WaitsForData, IsQueue, steps_of}
 
--- its store, the shape of each logical unit, the command that is kept, and the data of it that came last
+-- its store, the shape of each logical unit, the tasks in order of acceptance, and the data of the first one that came last
 pub record DeviceState : Type 0 where
   pub store : StoreState
   pub shape : Shape
-  pub head : Option Task
+  pub tasks : List Task
   pub held : List ℕ
 
-pub record IsDevice (store : StoreState) (shape : Shape) (luns : ℕ) (head : Option Task) (held : List ℕ) (room : ℕ) : Type 0 where
+pub record IsDevice (store : StoreState) (shape : Shape) (luns : ℕ) (tasks : List Task) (held : List ℕ) (room : ℕ) : Type 0 where
   pub limits : IsWithinLimits shape
   pub luns_served : store.luns ≡ luns
   pub units_served : store.units ≡ shape.units
-  pub head_ok : IfSome head (IsTaskOk luns shape.units)
-  pub data_held : IfSome head (HoldsData held)
+  pub served : CanServe store.geometry luns shape.units
+  pub queue : IsQueue luns shape.units held tasks
   pub burst : BURST_BYTES ≤ room
 
--- nothing can go on without the host
+-- nothing can go on without the host: no task is kept, or the first one waits for data
+abbrev pub AreAtRest : List Task → Type 0
+AreAtRest [] = ⊤
+AreAtRest (head ∷ _) = WaitsForData head
+
 abbrev pub AtRest : DeviceState → Type 0
-AtRest device = MatchOption device.head ⊤ WaitsForData
+AtRest device = AreAtRest device.tasks
 
 -- why no device is made: the shape is outside its limits or the chip can't hold the units, or there isn't enough memory
 abbrev pub IsNewFault : NewFault → Geometry → ℕ → Shape → Type 0
@@ -37,4 +40,4 @@ IsNewFault fault.Memory geometry luns shape = IsWithinLimits shape × CanServe g
 
 -- how many steps a device takes at most before it is at rest
 abbrev pub steps_left : DeviceState → ℕ
-steps_left device = option_map_or steps_of device.head 0
+steps_left device = sum_by steps_of device.tasks

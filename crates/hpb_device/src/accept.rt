@@ -1,5 +1,6 @@
-// What comes of the bytes of the host, by the command that is kept.
-ghost use Rattle.std.specs.Prelude.{◌≡◌, ◌<◌, ◌^◌, ℕ, List, length, None, IfOk, IfSome, OnOk};
+// What comes of the bytes of the host, by the tasks that are kept.
+ghost use Rattle.std.specs.Prelude.{◌≡◌, ◌<◌, ◌==◌, ◌^◌, ℕ, List, [], ◌∷◌, length, IfOk, OnOk};
+ghost use Rattle.std.specs.List.{list_any};
 ghost use Rattle.std.specs.Bool.{OnTrue};
 ghost use Rattle.flash_pages.specs.declared.chip.Geometry.{Geometry};
 ghost use Rattle.hpb_cdb.specs.Cdb.{IsCdb};
@@ -9,11 +10,12 @@ ghost use Rattle.flat_unit.specs.Task.{Task as Waiting};
 ghost use Rattle.hpb_device.specs.Accept.{IsVerdict, IsBegun, IsNextPiece, IsCommandOf, IsJudged, IsDataVerdict, Follows, goes_on};
 ghost use Rattle.hpb_device.specs.Keeps.{KeepsTasks};
 ghost use Rattle.hpb_device.specs.Reply.{reply_upiu};
-ghost use Rattle.hpb_device.specs.Sizes.{sizes};
-ghost use Rattle.hpb_device.specs.Task.{IsServed, IsTaskOk};
+ghost use Rattle.hpb_device.specs.Sizes.{OPCODES, sizes};
+ghost use Rattle.hpb_device.specs.Task.{IsQueue, IsServed, IsTaskOk};
 
+use crate::queue::head_of;
 use crate::reply::{Cause, Reply};
-use crate::task::Task;
+use crate::task::{TASKS, Task};
 use hpb_cdb::{Cdb, CdbFault, Limits};
 use upiu_wire::{Kind, UpiuView};
 
@@ -24,10 +26,16 @@ const TAG_IN_USE: u8 = 8;
 
 const DATA_NOT_WAITED_FOR: u8 = 9;
 
-/// The opcodes that are served (SBC).
+/// The opcodes that are served (SPC, SBC).
+const TEST_UNIT_READY: u8 = 0x00;
+
+const READ_CAPACITY_10: u8 = 0x25;
+
 const READ_10: u8 = 0x28;
 
 const WRITE_10: u8 = 0x2A;
+
+const SYNCHRONIZE_CACHE_10: u8 = 0x35;
 
 /// What comes of the bytes of the host.
 pub enum Verdict<'a> {
@@ -42,23 +50,23 @@ pub enum Verdict<'a> {
 }
 
 /// Judges bytes of the host. The tests stand in a fixed order, which is this project's own.
-pub fn judge<'a>(limits: Limits, luns: u8, head: Option<Task>, bytes: &'a [u8]) -> Verdict<'a>
+pub fn judge<'a>(limits: Limits, luns: u8, tasks: &[Task], bytes: &'a [u8]) -> Verdict<'a>
     requires limits { 0 < limits.per_sub }
     requires few_blocks { limits.units < 2 ^ 32 }
-    requires head { IfSome head (IsTaskOk luns limits.units) }
-    ensures verdict { IsVerdict limits luns head (upiu_at bytes.now) result }
-    ensures follows { (geometry : Geometry) (held : List ℕ) (tasks : List Waiting) → KeepsTasks head held tasks
-        → Follows (sizes luns limits geometry) tasks bytes.now result }
+    requires queue { (held : List ℕ) × IsQueue luns limits.units held tasks.now }
+    ensures verdict { IsVerdict limits luns tasks.now (upiu_at bytes.now) result }
+    ensures follows { (geometry : Geometry) (held : List ℕ) (waiting : List Waiting) → KeepsTasks tasks.now held waiting
+        → Follows (sizes luns limits geometry) waiting bytes.now result }
 {
     match UpiuView::parse(bytes) {
         Err(fault) => Verdict::Answer(reject_bytes(bytes, fault.number())),
         Ok(view) => match view.kind() {
             Kind::NopOut => Verdict::Answer(Reply::NopIn { tag: view.tag() }),
-            Kind::Command => match judge_command(limits, luns, head, &view) {
+            Kind::Command => match judge_command(limits, luns, tasks, &view) {
                 Ok(task) => Verdict::Keep(task),
                 Err(reply) => Verdict::Answer(reply),
             },
-            Kind::DataOut => judge_data(limits, luns, head, &view),
+            Kind::DataOut => judge_data(limits, luns, tasks, &view),
             _ => Verdict::Answer(Reply::Reject {
                 lun: view.lun(),
                 tag: view.tag(),
@@ -90,28 +98,26 @@ fn reject_bytes(bytes: &[u8], reason: u8) -> Reply
 fn judge_command(
     limits: Limits,
     luns: u8,
-    head: Option<Task>,
+    tasks: &[Task],
     view: &UpiuView<'_>,
 ) -> Result<Task, Reply>
     requires limits { 0 < limits.per_sub }
     requires few_blocks { limits.units < 2 ^ 32 }
-    ensures alone { OnOk result (head ≡ None) }
+    ensures room { OnOk result (length tasks.now < TASKS) }
     ensures first_fits { (upiu_at view.now).first < 2 ^ 32 }
     ensures begun { IfOk result (IsBegun limits luns (upiu_at view.now)) }
-    ensures judged { (geometry : Geometry) (held : List ℕ) (tasks : List Waiting) → KeepsTasks head held tasks
-        → IsJudged (sizes luns limits geometry) tasks (upiu_at view.now) result }
+    ensures judged { (geometry : Geometry) (held : List ℕ) (waiting : List Waiting) → KeepsTasks tasks.now held waiting
+        → IsJudged (sizes luns limits geometry) waiting (upiu_at view.now) result }
 {
     let lun = view.lun();
     let tag = view.tag();
     let expected = view.first();
-    if let Some(task) = head {
-        if task.tag == tag {
-            return Err(Reply::Reject {
-                lun,
-                tag,
-                reason: TAG_IN_USE,
-            });
-        }
+    if is_in_use(tasks, tag) {
+        return Err(Reply::Reject {
+            lun,
+            tag,
+            reason: TAG_IN_USE,
+        });
     }
     let check = |cause| Reply::Check {
         lun,
@@ -122,7 +128,7 @@ fn judge_command(
     if lun >= luns {
         return Err(check(Cause::NoSuchUnit));
     }
-    if head.is_some() {
+    if tasks.len() >= TASKS {
         return Err(Reply::TaskSetFull {
             lun,
             tag,
@@ -140,6 +146,23 @@ fn judge_command(
     }
 }
 
+/// Whether a task has this tag.
+fn is_in_use(tasks: &[Task], tag: u8) -> bool
+    ensures { result ≡ list_any (λ task. task.tag == tag) tasks.now }
+{
+    tasks.iter().any(|task| task.tag == tag)
+}
+
+/// Whether the command with this opcode is served.
+fn is_opcode(opcode: u8) -> bool
+    ensures { result ≡ list_any (λ served. served == opcode) OPCODES }
+{
+    matches!(
+        opcode,
+        TEST_UNIT_READY | READ_CAPACITY_10 | READ_10 | WRITE_10 | SYNCHRONIZE_CACHE_10
+    )
+}
+
 /// The command of a CDB, or why it is refused.
 fn command_of(limits: Limits, cdb: &[u8]) -> Result<Cdb, Cause>
     requires bytes { length cdb.now ≡ 16 }
@@ -148,7 +171,7 @@ fn command_of(limits: Limits, cdb: &[u8]) -> Result<Cdb, Cause>
     ensures served { IfOk result (IsServed limits.units) }
     ensures command_of { (luns : ℕ) (geometry : Geometry) → IsCommandOf (sizes luns limits geometry) cdb.now result }
 {
-    if cdb[0] != READ_10 && cdb[0] != WRITE_10 {
+    if !is_opcode(cdb[0]) {
         return Err(Cause::UnknownOpcode);
     }
     match hpb_cdb::parse(cdb, limits) {
@@ -172,11 +195,11 @@ fn goes_on(task: Task, view: &UpiuView<'_>) -> bool
 }
 
 /// What comes of a DATA OUT.
-fn judge_data<'a>(limits: Limits, luns: u8, head: Option<Task>, view: &UpiuView<'a>) -> Verdict<'a>
-    requires { IfSome head (IsTaskOk luns limits.units) }
-    ensures verdict { IsVerdict limits luns head (upiu_at view.now) result }
-    ensures follows { (held : List ℕ) (tasks : List Waiting) → KeepsTasks head held tasks
-        → IsDataVerdict tasks (upiu_at view.now) result }
+fn judge_data<'a>(limits: Limits, luns: u8, tasks: &[Task], view: &UpiuView<'a>) -> Verdict<'a>
+    requires { (held : List ℕ) × IsQueue luns limits.units held tasks.now }
+    ensures verdict { IsVerdict limits luns tasks.now (upiu_at view.now) result }
+    ensures follows { (held : List ℕ) (waiting : List Waiting) → KeepsTasks tasks.now held waiting
+        → IsDataVerdict waiting (upiu_at view.now) result }
 {
     let lun = view.lun();
     let tag = view.tag();
@@ -185,7 +208,7 @@ fn judge_data<'a>(limits: Limits, luns: u8, head: Option<Task>, view: &UpiuView<
         tag,
         reason: DATA_NOT_WAITED_FOR,
     };
-    let Some(task) = head else {
+    let Some(task) = head_of(tasks) else {
         return Verdict::Answer(not_waited_for);
     };
     if !task.waits_for_data() || task.lun != lun || task.tag != tag {

@@ -1,10 +1,12 @@
-// One step of the command that is kept.
+// One step of the first task.
 ghost use Rattle.std.specs.Prelude.{◌≡◌, ◌+◌, ◌-◌, ◌*◌, ◌<◌, ◌≤◌, ℕ, List, length, vec_capacity};
 ghost use Rattle.hpb_device.specs.Task.{IsTaskOk, HoldsData, steps_of};
+ghost use Rattle.flash_store.specs.Store.{StoreState};
 ghost use Rattle.hpb_device.specs.Advance.{Advances, AllTasks, IsSameStore, MakesACallAtMost, check};
 
 use crate::reply::{Cause, Reply};
-use crate::task::{BURST_BYTES, Task};
+use crate::task::{BURST_BYTES, CAPACITY_BYTES, Task};
+use byteorder::{BigEndian, ByteOrder};
 use flash_pages::{BLOCK_BYTES, ChipOp, Flash};
 use flash_store::{Store, StoreFault, Wrote};
 use hpb_cdb::Cdb;
@@ -18,6 +20,8 @@ const BLOCK: u32 = BLOCK_BYTES as u32;
 pub enum Progress {
     /// A block was sent by DATA IN.
     Shown(Task),
+    /// The capacity of the unit was sent by DATA IN.
+    Told(Task),
     /// Data were asked for by READY TO TRANSFER.
     Asked(Task),
     /// A block was programmed.
@@ -58,9 +62,12 @@ pub fn advance<F: Flash>(
     store: &mut Store<F>,
     held: &mut Vec<u8>,
     task: Task,
+    units: u32,
     out: &mut UpiuBuf,
 ) -> Progress
     requires task { IsTaskOk store.old.luns store.old.units task }
+    requires units { units ≡ store.old.units }
+    requires some_block { 0 < units }
     requires held { HoldsData held.old.items task }
     requires goes { task.come ≡ task.asked }
     ensures advances { Advances store.old store.new held.old.items held.new.items task result out.new }
@@ -80,6 +87,7 @@ pub fn advance<F: Flash>(
                 ask(store, held, task, lba, n, out)
             }
         }
+        Cdb::Capacity => tell(task, units, out),
         _ => Progress::Ended(good(task)),
     }
 }
@@ -164,6 +172,30 @@ fn ask<F: Flash>(
     out.put_rtt(task.lun, task.tag, task.asked, count);
     Progress::Asked(Task {
         asked: task.asked + count,
+        ..task
+    })
+}
+
+/// Sends the capacity of a unit of so many blocks, or answers READ CAPACITY(10) (SBC).
+fn tell(task: Task, units: u32, out: &mut UpiuBuf) -> Progress
+    requires task { (luns : ℕ) × IsTaskOk luns units task }
+    requires some_block { 0 < units }
+    requires command { task.command ≡ Cdb.Capacity }
+    requires goes { task.come ≡ task.asked }
+    ensures advances { (store : StoreState) (held : List ℕ) → store.units ≡ units → Advances store store held held task result out.new }
+    ensures ok { (luns : ℕ) → IsTaskOk luns units task → AllTasks (IsTaskOk luns units) result }
+    ensures held { (held : List ℕ) → HoldsData held task → AllTasks (HoldsData held) result }
+    ensures fewer { AllTasks (λ rest. steps_of rest < steps_of task) result }
+{
+    if task.sent == CAPACITY_BYTES as u32 {
+        return Progress::Ended(good(task));
+    }
+    let mut capacity = [0; CAPACITY_BYTES];
+    BigEndian::write_u32(&mut capacity[..4], units - 1);
+    BigEndian::write_u32(&mut capacity[4..], BLOCK);
+    out.put_data_in(task.lun, task.tag, task.sent, &capacity);
+    Progress::Told(Task {
+        sent: CAPACITY_BYTES as u32,
         ..task
     })
 }

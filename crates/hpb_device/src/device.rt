@@ -1,7 +1,8 @@
-ghost use Rattle.std.specs.Prelude.{◌≡◌, ◌≤◌, ◌↔◌, ◌*◌, ◌+◌, ◌^◌, ◌-◌, ◌<◌, List, [], None, IsTrue, IsSome, IfOk, IfErr, IfSome, true, false};
+ghost use Rattle.std.specs.Prelude.{◌≡◌, ◌≤◌, ◌↔◌, ◌<◌, List, [], drop, length, vec_capacity, None, IsTrue, IfOk, IfErr, true, false};
 ghost use Rattle.hpb_outside.specs.Faults.{Rose, raised};
 ghost use Rattle.flash_pages.specs.Chip.{erased_chip};
 ghost use Rattle.region_state.specs.Shape.{IsWithinLimits};
+ghost use Rattle.upiu_wire.specs.Upiu.{Upiu};
 ghost use Rattle.flat_unit.specs.declared.event.Event.TheVariants.{Host};
 ghost use Rattle.flat_unit.specs.History.{History, ◌▹◌, followed_by};
 ghost use Rattle.flat_unit.specs.Replays.{events_of};
@@ -9,13 +10,16 @@ ghost use Rattle.flat_unit.specs.Sound.{answers_to};
 ghost use Rattle.flat_unit.specs.Stands.{First};
 ghost use Rattle.flat_unit.specs.Task.{Task as Waiting};
 ghost use Rattle.hpb_device.specs.Limits.{limits_of};
+ghost use Rattle.hpb_device.specs.Calls.{Leaves, Stays};
 ghost use Rattle.hpb_device.specs.State.{AtRest, IsNewFault, steps_left};
 ghost use Rattle.std.specs.Bool.{OnFalse};
 
 use crate::accept::{Verdict, judge};
 use crate::advance::{Progress, advance};
 use crate::reply::{Reply, put_reply};
-use crate::task::{BURST_BYTES, Task};
+use crate::queue::{end_head, head_of, keep_head};
+use crate::task::{BURST_BYTES, TASKS, Task};
+use arrayvec::ArrayVec;
 use flash_pages::{ChipOp, Flash};
 use flash_store::Store;
 use hpb_cdb::Limits;
@@ -88,7 +92,7 @@ pub struct Device<F: Flash> {
     store: Store<F>,
     shape: Shape,
     luns: u8,
-    head: Option<Task>,
+    tasks: ArrayVec<Task, TASKS>,
     held: Vec<u8>,
 }
 
@@ -98,13 +102,13 @@ impl<F: Flash> Model for Device<F> {
 
     ghost Value = { DeviceState };
 
-    ghost view = { λ d. record { store = d.store; shape = d.shape; head = d.head; held = d.held.items } };
+    ghost view = { λ d. record { store = d.store; shape = d.shape; tasks = d.tasks.items; held = d.held.items } };
 
-    ghost invariant = { λ d. IsDevice d.store d.shape d.luns d.head d.held.items (vec_capacity d.held) };
+    ghost invariant = { λ d. IsDevice d.store d.shape d.luns d.tasks.items d.held.items (vec_capacity d.held) };
 }
 
 impl<F: Flash> Device<F> {
-    ghost use Rattle.hpb_device.specs.Accept.{IsNextPiece};
+    ghost use Rattle.hpb_device.specs.Accept.{TakesPiece};
     ghost use Rattle.hpb_device.specs.Calls.{Receives, Steps, TakesData};
     ghost use Rattle.hpb_device.specs.Keeps.{KeepsTasks};
     ghost use Rattle.hpb_device.specs.Standing.{DeviceStands, sizes_of, answer_events, group_of};
@@ -118,7 +122,7 @@ impl<F: Flash> Device<F> {
         ensures refused { IfErr result (λ refused. IsNewFault refused.1 (F.geometry flash) luns shape) }
         ensures begun { IfOk result (λ device. IsNewFault NewFault.Memory (F.geometry flash) luns shape) }
 
-        ensures head { IfOk result (λ device. device.head ≡ None) }
+        ensures tasks { IfOk result (λ device. device.tasks ≡ []) }
         ensures shape { IfOk result (λ device. device.shape ≡ shape) }
         ensures luns { IfOk result (λ device. device.store.luns ≡ luns) }
         ensures units { IfOk result (λ device. device.store.units ≡ shape.units) }
@@ -141,7 +145,7 @@ impl<F: Flash> Device<F> {
                 store,
                 shape,
                 luns,
-                head: None,
+                tasks: ArrayVec::new(),
                 held,
             }),
             Err(_) => Err((store.into_flash(), NewFault::Memory)),
@@ -162,17 +166,16 @@ impl<F: Flash> Device<F> {
     pub fn receive(&mut self, bytes: &[u8], out: &mut UpiuBuf) -> Sent
         ensures stands { (first : First) (e : History) → DeviceStands self.old first e
             → DeviceStands self.new first (followed_by (e ▹ Host bytes.now) (answer_events result out.new)) }
-        ensures answers { (tasks : List Waiting) → KeepsTasks self.old.head self.old.held tasks
+        ensures answers { (tasks : List Waiting) → KeepsTasks self.old.tasks self.old.held tasks
             → answers_to (sizes_of self.old) true tasks bytes.now ≡ answer_events result out.new }
-        ensures receives { Receives self.old self.new bytes.now result }
+        ensures receives { Receives self.old self.new bytes.now result out.new }
         ensures store { self.new.store ≡ self.old.store }
         ensures shape { self.new.shape ≡ self.old.shape }
     {
         let limits = limits_of(self.shape);
-        match judge(limits, self.luns, self.head, bytes) {
+        match judge(limits, self.luns, &self.tasks, bytes) {
             Verdict::Keep(task) => {
-                self.held.clear();
-                self.head = Some(task);
+                self.tasks.push(task);
                 Sent::Nothing
             }
             Verdict::Data(segment) => {
@@ -184,7 +187,7 @@ impl<F: Flash> Device<F> {
                 Sent::Upiu
             }
             Verdict::End(reply) => {
-                self.head = None;
+                end_head(&mut self.tasks, &mut self.held);
                 put_reply(reply, out);
                 Sent::Upiu
             }
@@ -193,14 +196,14 @@ impl<F: Flash> Device<F> {
 
     /// Adds data that have come for the head.
     fn take_data(&mut self, segment: &[u8])
-        requires { IfSome self.old.head (λ task. IsNextPiece task segment.now) }
-        ensures taken { IsSome self.old.head → TakesData self.old self.new segment.now }
+        requires { (upiu : Upiu) × TakesPiece self.old.tasks upiu segment.now }
+        ensures taken { TakesData self.old self.new segment.now }
         ensures store { self.new.store ≡ self.old.store }
         ensures shape { self.new.shape ≡ self.old.shape }
     {
-        if let Some(task) = self.head {
+        if let Some(task) = head_of(&self.tasks) {
             self.held.extend_from_slice(segment).unwrap();
-            self.head = Some(task.with_data(segment.len() as u32));
+            keep_head(&mut self.tasks, task.with_data(segment.len() as u32));
         }
     }
 
@@ -214,44 +217,29 @@ impl<F: Flash> Device<F> {
         ensures fewer { OnFalse result.idle (steps_left self.new < steps_left self.old) }
         ensures shape { self.new.shape ≡ self.old.shape }
     {
-        let Some(task) = self.head else {
+        let Some(task) = head_of(&self.tasks) else {
             return Stepped::idle();
         };
         if task.waits_for_data() {
             return Stepped::idle();
         }
-        match advance(&mut self.store, &mut self.held, task, out) {
-            Progress::Shown(rest) => {
-                self.head = Some(rest);
-                Stepped::of_task(None, true)
-            }
-            Progress::Asked(rest) => {
-                self.head = Some(rest);
-                Stepped::of_task(None, true)
-            }
-            Progress::Programmed(rest) => {
-                self.head = Some(rest);
-                Stepped::of_task(None, false)
-            }
-            Progress::Ended(reply) => {
-                self.head = None;
-                put_reply(reply, out);
-                Stepped::of_task(None, true)
-            }
-            Progress::Failed(op, reply) => {
-                self.head = None;
-                put_reply(reply, out);
-                Stepped::of_task(Some(op), true)
-            }
-        }
+        let progress = advance(
+            &mut self.store,
+            &mut self.held,
+            task,
+            self.shape.units,
+            out,
+        );
+        leave(progress, &mut self.tasks, &mut self.held, out)
     }
 
     /// What the device needs to go on.
     pub fn waits(&self) -> Waits
-        ensures nothing { (result ≡ Waits.Nothing) ↔ (self.now.head ≡ None) }
+        ensures nothing { (result ≡ Waits.Nothing) ↔ (self.now.tasks ≡ []) }
         ensures rest { (result ≡ Waits.Step) ↔ ¬ AtRest self.now }
+        ensures left { result ≡ Waits.Step → 0 < steps_left self.now }
     {
-        match self.head {
+        match head_of(&self.tasks) {
             None => Waits::Nothing,
             Some(task) => {
                 if task.waits_for_data() {
@@ -260,6 +248,40 @@ impl<F: Flash> Device<F> {
                     Waits::Step
                 }
             }
+        }
+    }
+}
+
+/// Leaves the tasks as a step of the first one has them, and answers it where it is over.
+fn leave(
+    progress: Progress,
+    tasks: &mut ArrayVec<Task, TASKS>,
+    held: &mut Vec<u8>,
+    out: &mut UpiuBuf,
+) -> Stepped
+    requires { 0 < length tasks.old.items }
+    ensures leaves { Leaves progress (drop 1 tasks.old.items) tasks.new.items held.new.items result out.new }
+    ensures stays { Stays progress held.old.items held.new.items out.old out.new }
+    ensures room { vec_capacity held.new ≡ vec_capacity held.old }
+{
+    match progress {
+        Progress::Shown(rest) | Progress::Told(rest) | Progress::Asked(rest) => {
+            keep_head(tasks, rest);
+            Stepped::of_task(None, true)
+        }
+        Progress::Programmed(rest) => {
+            keep_head(tasks, rest);
+            Stepped::of_task(None, false)
+        }
+        Progress::Ended(reply) => {
+            end_head(tasks, held);
+            put_reply(reply, out);
+            Stepped::of_task(None, true)
+        }
+        Progress::Failed(op, reply) => {
+            end_head(tasks, held);
+            put_reply(reply, out);
+            Stepped::of_task(Some(op), true)
         }
     }
 }

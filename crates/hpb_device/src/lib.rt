@@ -4,6 +4,7 @@
 mod accept;
 mod advance;
 mod device;
+mod queue;
 mod reply;
 mod task;
 

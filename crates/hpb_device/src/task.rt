@@ -6,7 +6,13 @@ use hpb_cdb::Cdb;
 /// The most bytes that are asked for at once.
 pub const BURST_BYTES: usize = 32_768;
 
-/// The command that is kept, and how far it has come. Offsets and lengths are bytes of its data.
+/// The tasks that are kept at most.
+pub const TASKS: usize = 32;
+
+/// The bytes that READ CAPACITY(10) sends (SBC).
+pub const CAPACITY_BYTES: usize = 8;
+
+/// A command that is kept, and how far it has come. Offsets and lengths are bytes of its data.
 #[derive(Clone, Copy, Debug, PartialEq, Eq)]
 pub struct Task {
     pub lun: u8,
@@ -22,6 +28,13 @@ pub struct Task {
     pub sent: u32,
     /// The blocks that were programmed.
     pub programmed: u32,
+}
+
+impl Default for Task {
+    /// TEST UNIT READY of unit 0, of which nothing is done yet.
+    fn default() -> Task {
+        Task::new(0, 0, Cdb::TestReady, 0)
+    }
 }
 
 impl Task {

@@ -21,6 +21,7 @@ returns-in-Ok-clause-advances g c =
     let block = c.in-Ok.ensures.block ∙ ap block_at (sym moves.first) in
     λ held. (
       record {
+        read = (c.args.lba, c.args.n, c.requires.command);
         more = omega (arith, moves.gives);
         size = ap (λ (lba : ℕ). length (block_at lba)) moves.first ∙ (ap (λ (xs : List ℕ). length xs) (sym c.in-Ok.ensures.block) ∙ c.in-Ok.ensures.size);
         sent = c.put_data_in.ensures.written ∙ ap (λ (bytes : List ℕ). upiu_out (data_upiu DataIn task.lun task.tag task.sent bytes)) block;

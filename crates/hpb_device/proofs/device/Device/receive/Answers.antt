@@ -1,21 +1,25 @@
-use Rattle.std.proofs.Common.{◌≡◌, ◌+◌, ◌≤◌, true, List, ◌++◌, length, Option, Some, refl, inr, sym, ap, subst, ◌∙◌}
-use Rattle.std.specs.Option.{IsSome, IfSome}
-use Rattle.hpb_device.specs.Task.{HoldsData}
+use Rattle.std.proofs.Common.{◌≡◌, ◌⊎◌, ℕ, ◌+◌, ◌<◌, ◌≤◌, true, List, [], ◌∷◌, ◌++◌, drop, length, Some, refl, inl, inr, sym, ap, subst, ◌∙◌, arith, rules}
+use Rattle.std.specs.Prelude.{sum_by}
+use Rattle.hpb_cdb.specs.declared.limits.Limits.{Limits}
+use Rattle.flat_unit.specs.Replays.{bound}
+use Rattle.hpb_device.specs.Task.{IsQueue, steps_of}
 use Rattle.flat_unit.specs.Reply.{reply_of}
 use Rattle.flat_unit.specs.Sizes.{Sizes}
 use Rattle.flat_unit.specs.Task.{Task as Waiting}
-use Rattle.upiu_wire.specs.Upiu.{upiu_out}
+use Rattle.upiu_wire.specs.Upiu.{upiu_at, upiu_out}
 use Rattle.hpb_device.specs.declared.task.Task.{Task}
 use Rattle.hpb_device.specs.declared.reply.Reply.{Reply}
 use Rattle.hpb_device.specs.declared.reply.Reply.TheVariants.{Check}
 use Rattle.hpb_device.specs.declared.reply.Cause.TheVariants.{DataNotAsked}
-use Rattle.hpb_device.specs.Accept.{IsKept, IsTaken, IsAnswered}
-use Rattle.hpb_device.specs.Calls.{TakesData}
+use Rattle.hpb_device.specs.Accept.{EndsFirst, TakesPiece, IsBegun, IsKept, IsTaken, IsAnswered}
+use Rattle.hpb_device.specs.Calls.{EndsHead, Keeps, TakesData}
 use Rattle.hpb_device.specs.Keeps.{KeepsTasks}
 use Rattle.hpb_device.specs.Reply.{reply_upiu}
 use Rattle.hpb_device.specs.Standing.{sizes_of, DeviceStands}
-use Rattle.hpb_device.specs.State.{DeviceState}
-use Rattle.hpb_device.proofs.Commands.{ends, takes}
+use Rattle.hpb_device.specs.State.{DeviceState, steps_left}
+use Rattle.hpb_device.proofs.Commands.{ends}
+use Rattle.hpb_device.proofs.Going.{keeps_left}
+use Rattle.hpb_device.proofs.Leaving.{ended_left}
 use Rattle.hpb_device.proofs.Receiving.{stands_kept, stands_with_data, stands_with_reply, stands_without_head, owes_events, no_effects, device_is, sizes_are, stands_same, answers_same}
 use Rattle.hpb_device.specs.Limits.{limits_of}
 use Rattle.hpb_device.proofs.device.Device.receive.Goals as goal
@@ -23,32 +27,41 @@ use Rattle.hpb_device.proofs.device.Device.receive.Goals as goal
 pub returns-in-Keep-clause-stands : goal.returns-in-Keep-clause-stands
 returns-in-Keep-clause-stands g c = λ first e at.
     let s = c.self.inside in
-    let d : DeviceState = record { store = s.store; shape = s.shape; head = s.head; held = s.held.items } in
+    let d : DeviceState = record { store = s.store; shape = s.shape; tasks = s.tasks.items; held = s.held.items } in
+    let lent : c.deref.result.now ≡ d.tasks = search rules in
     let before : DeviceStands d first e = subst (λ (x : DeviceState). DeviceStands x first e) (sym c.self.view_is) at in
     let sized = sizes_are d c.limits_of-limits.result s.luns c.limits_of-limits.ensures c.self.invariant.luns_served in
-    let kept : (tasks : List Waiting) → KeepsTasks d.head d.held tasks → IsKept (sizes_of d) tasks c.args.bytes.now c.in-Keep.task =
-    λ tasks keeps. subst (λ (z : Sizes). IsKept z tasks c.args.bytes.now c.in-Keep.task) sized (c.in-Keep.ensures.follows s.store.geometry d.held tasks keeps) in
-    let now = stands_kept d c.in-Keep.task c.args.bytes.now c.limits_of-limits.result s.luns first e c.in-Keep.ensures.verdict.0 c.in-Keep.ensures.verdict.1 kept before in
-    rw c.clear.ensures.items now
+    let kept : (tasks : List Waiting) → KeepsTasks d.tasks d.held tasks → IsKept (sizes_of d) tasks c.args.bytes.now c.in-Keep.task =
+    λ tasks keeps. subst (λ (z : Sizes). IsKept z tasks c.args.bytes.now c.in-Keep.task) sized (c.in-Keep.ensures.follows s.store.geometry d.held tasks (subst (λ (ts : List Task). KeepsTasks ts d.held tasks) (sym lent) keeps)) in
+    let same_units : c.limits_of-limits.result.units ≡ s.shape.units = ap (λ (lim : Limits). lim.units) c.limits_of-limits.ensures in
+    let queue : IsQueue s.luns c.limits_of-limits.result.units d.held d.tasks = subst (λ (units : ℕ). IsQueue s.luns units d.held d.tasks) (sym same_units) c.self.invariant.queue in
+    let now = stands_kept d c.in-Keep.task c.args.bytes.now c.limits_of-limits.result s.luns first e queue c.in-Keep.ensures.verdict.1 kept before in
+    rw c.push.ensures.items now
+
+pub take_data-requires : goal.take_data-requires
+take_data-requires g c =
+    let s = c.self.inside in
+    let lent : c.deref.result.now ≡ s.tasks.items = search rules in
+    let same : s.tasks.items ≡ c.args.self.now.tasks = ap (λ (x : DeviceState). x.tasks) c.self.view_is in
+    (upiu_at c.args.bytes.now, subst (λ (ts : List Task). TakesPiece ts (upiu_at c.args.bytes.now) c.in-Data.segment.now) (lent ∙ same) c.in-Data.ensures.verdict)
 
 pub returns-in-Data-clause-stands : goal.returns-in-Data-clause-stands
 returns-in-Data-clause-stands g c = λ first e at.
     let s = c.self.inside in
-    let d : DeviceState = record { store = s.store; shape = s.shape; head = s.head; held = s.held.items } in
+    let d : DeviceState = record { store = s.store; shape = s.shape; tasks = s.tasks.items; held = s.held.items } in
+    let lent : c.deref.result.now ≡ d.tasks = search rules in
     let segment = c.in-Data.segment.now in
     let before : DeviceStands d first e = subst (λ (x : DeviceState). DeviceStands x first e) (sym c.self.view_is) at in
     let sized = sizes_are d c.limits_of-limits.result s.luns c.limits_of-limits.ensures c.self.invariant.luns_served in
-    let taken : (tasks : List Waiting) → KeepsTasks d.head d.held tasks → IsTaken (sizes_of d) tasks c.args.bytes.now segment =
-    λ tasks keeps. subst (λ (z : Sizes). IsTaken z tasks c.args.bytes.now segment) sized (c.in-Data.ensures.follows s.store.geometry d.held tasks keeps) in
-    let takes_it = takes c.limits_of-limits.result s.luns s.head _ c.in-Data.segment c.in-Data.ensures.verdict in
-    let was : c.args.self.now.head ≡ Some takes_it.0 = ap (λ (x : DeviceState). x.head) (sym c.self.view_is) ∙ takes_it.1 in
-    let data_taken : TakesData c.args.self.now c.take_data.new.self segment = c.take_data.ensures.taken (subst (λ (h : Option Task). IsSome h) (sym was) refl) in
+    let taken : (tasks : List Waiting) → KeepsTasks d.tasks d.held tasks → IsTaken (sizes_of d) tasks c.args.bytes.now segment =
+    λ tasks keeps. subst (λ (z : Sizes). IsTaken z tasks c.args.bytes.now segment) sized (c.in-Data.ensures.follows s.store.geometry d.held tasks (subst (λ (ts : List Task). KeepsTasks ts d.held tasks) (sym lent) keeps)) in
+    let data_taken : TakesData c.args.self.now c.take_data.new.self segment = c.take_data.ensures.taken in
     let task = data_taken.task in
-    let is : d.head ≡ Some task = ap (λ (x : DeviceState). x.head) c.self.view_is ∙ data_taken.was in
-    let holds : HoldsData d.held task = subst (λ (h : Option Task). IfSome h (HoldsData d.held)) is c.self.invariant.data_held in
-    let part : length d.held ≤ task.come = holds.part in
-    let now = stands_with_data d task c.args.bytes.now segment first e is part taken before in
-    let same = device_is d c.take_data.new.self (Some (record task { come = task.come + length segment })) (d.held ++ segment)
+    let others = data_taken.others in
+    let is : d.tasks ≡ task ∷ others = ap (λ (x : DeviceState). x.tasks) c.self.view_is ∙ data_taken.was in
+    let queue = subst (IsQueue s.luns s.shape.units d.held) is c.self.invariant.queue in
+    let now = stands_with_data d task others c.args.bytes.now segment first e is queue.1.part taken before in
+    let same = device_is d c.take_data.new.self (record task { come = task.come + length segment } ∷ others) (d.held ++ segment)
     (c.take_data.ensures.store ∙ ap (λ (x : DeviceState). x.store) (sym c.self.view_is)) (c.take_data.ensures.shape ∙ ap (λ (x : DeviceState). x.shape) (sym c.self.view_is))
     data_taken.kept (data_taken.held ∙ ap (λ (x : DeviceState). x.held ++ segment) (sym c.self.view_is)) in
     stands_same _ _ _ _ same now
@@ -56,53 +69,90 @@ returns-in-Data-clause-stands g c = λ first e at.
 pub returns-in-Answer-clause-stands : goal.returns-in-Answer-clause-stands
 returns-in-Answer-clause-stands g c = λ first e at.
     let s = c.self.inside in
-    let d : DeviceState = record { store = s.store; shape = s.shape; head = s.head; held = s.held.items } in
+    let d : DeviceState = record { store = s.store; shape = s.shape; tasks = s.tasks.items; held = s.held.items } in
+    let lent : c.deref.result.now ≡ d.tasks = search rules in
     let before : DeviceStands d first e = subst (λ (x : DeviceState). DeviceStands x first e) (sym c.self.view_is) at in
     let sized = sizes_are d c.limits_of-limits.result s.luns c.limits_of-limits.ensures c.self.invariant.luns_served in
-    let answered : (tasks : List Waiting) → KeepsTasks d.head d.held tasks → IsAnswered (sizes_of d) tasks c.args.bytes.now c.in-Answer.reply =
-    λ tasks keeps. subst (λ (z : Sizes). IsAnswered z tasks c.args.bytes.now c.in-Answer.reply) sized (c.in-Answer.ensures.follows s.store.geometry d.held tasks keeps) in
+    let answered : (tasks : List Waiting) → KeepsTasks d.tasks d.held tasks → IsAnswered (sizes_of d) tasks c.args.bytes.now c.in-Answer.reply =
+    λ tasks keeps. subst (λ (z : Sizes). IsAnswered z tasks c.args.bytes.now c.in-Answer.reply) sized (c.in-Answer.ensures.follows s.store.geometry d.held tasks (subst (λ (ts : List Task). KeepsTasks ts d.held tasks) (sym lent) keeps)) in
     let now = stands_with_reply d c.args.bytes.now c.in-Answer.reply c.put_reply.new.out first e c.put_reply.ensures answered before in
     stands_same _ _ _ _ c.self.view_is now
 
 pub returns-in-Answer-clause-answers : goal.returns-in-Answer-clause-answers
 returns-in-Answer-clause-answers g c = λ tasks keeps.
     let s = c.self.inside in
-    let d : DeviceState = record { store = s.store; shape = s.shape; head = s.head; held = s.held.items } in
+    let d : DeviceState = record { store = s.store; shape = s.shape; tasks = s.tasks.items; held = s.held.items } in
+    let lent : c.deref.result.now ≡ d.tasks = search rules in
     let sized = sizes_are d c.limits_of-limits.result s.luns c.limits_of-limits.ensures c.self.invariant.luns_served in
-    let before : KeepsTasks d.head d.held tasks = subst (λ (x : DeviceState). KeepsTasks x.head x.held tasks) (sym c.self.view_is) keeps in
-    let answered = subst (λ (z : Sizes). IsAnswered z tasks c.args.bytes.now c.in-Answer.reply) sized (c.in-Answer.ensures.follows s.store.geometry d.held tasks before) in
+    let before : KeepsTasks d.tasks d.held tasks = subst (λ (x : DeviceState). KeepsTasks x.tasks x.held tasks) (sym c.self.view_is) keeps in
+    let answered = subst (λ (z : Sizes). IsAnswered z tasks c.args.bytes.now c.in-Answer.reply) sized (c.in-Answer.ensures.follows s.store.geometry d.held tasks (subst (λ (ts : List Task). KeepsTasks ts d.held tasks) (sym lent) before)) in
     let now = owes_events (sizes_of d) tasks c.args.bytes.now (reply_upiu c.in-Answer.reply) c.put_reply.new.out answered.answers (no_effects d.store.luns (limits_of d.shape) d.store.geometry tasks c.args.bytes.now) c.put_reply.ensures in
     answers_same _ _ _ _ _ c.self.view_is now
 
+pub returns-in-Keep-clause-receives : goal.returns-in-Keep-clause-receives
+returns-in-Keep-clause-receives g c =
+    let s = c.self.inside in
+    let d : DeviceState = record { store = s.store; shape = s.shape; tasks = s.tasks.items; held = s.held.items } in
+    let lent : c.deref.result.now ≡ d.tasks = search rules in
+    let task = c.in-Keep.task in
+    let pushed : c.push.new.self.items ≡ d.tasks ++ task ∷ [] = c.push.ensures.items in
+    let begun : IsBegun (limits_of d.shape) d.store.luns (upiu_at c.args.bytes.now) task =
+    subst (λ (lim : Limits). IsBegun lim d.store.luns (upiu_at c.args.bytes.now) task) c.limits_of-limits.ensures
+    (subst (λ (luns : ℕ). IsBegun c.limits_of-limits.result luns (upiu_at c.args.bytes.now) task) (sym c.self.invariant.luns_served) c.in-Keep.ensures.verdict.1) in
+    let some : 1 ≤ d.store.geometry.pages = let limits = c.self.invariant.served.limits in omega (arith, limits.least_pages) in
+    let left : sum_by steps_of c.push.new.self.items ≤ steps_left d + bound (sizes_of d) task.command =
+    subst (λ (ts : List Task). sum_by steps_of ts ≤ steps_left d + bound (sizes_of d) task.command) (sym pushed) (keeps_left d task some) in
+    let now : DeviceState = record { store = s.store; shape = s.shape; tasks = c.push.new.self.items; held = s.held.items } in
+    let keeps : Keeps d now c.args.bytes.now = record { task = task; room = subst (λ (ts : List Task). length ts < 32) lent c.in-Keep.ensures.verdict.0; begun = begun; kept = pushed; held = refl; left = left } in
+    inl (subst (λ (x : DeviceState). Keeps x now c.args.bytes.now) c.self.view_is keeps)
+
 pub returns-in-End-clause-receives : goal.returns-in-End-clause-receives
 returns-in-End-clause-receives g c =
-    let ended = ends c.limits_of-limits.result c.self.inside.luns c.self.inside.head _ c.in-End.reply c.in-End.ensures.verdict in
-    inr (record {
+    let s = c.self.inside in
+    let d : DeviceState = record { store = s.store; shape = s.shape; tasks = s.tasks.items; held = s.held.items } in
+    let lent : c.deref.result.now ≡ d.tasks = search rules in
+    let ended = ends d.tasks c.in-End.reply (subst (λ (ts : List Task). EndsFirst ts c.in-End.reply) lent c.in-End.ensures.verdict) in
+    let now : DeviceState = record { store = s.store; shape = s.shape; tasks = c.end_head.new.tasks.items; held = c.end_head.new.held.items } in
+    let sent = c.put_reply-in-End.ensures ∙ ap (λ (r : Reply). upiu_out (reply_upiu r)) ended.4.2 in
+    let gone : now.tasks ≡ ended.1 = c.end_head.ensures.tasks ∙ ap (drop 1) ended.2 in
+    let fewer : steps_left now < steps_left d =
+    ended_left d.tasks now.tasks ended.0 ended.1 ended.2 gone in
+    let ends_it : EndsHead d now c.put_reply-in-End.new.out = record {
       task = ended.0;
-      was = ap (λ (d : DeviceState). d.head) (sym c.self.view_is) ∙ ended.1;
-      waited = ended.2;
-      ended = refl;
-    })
+      others = ended.1;
+      was = ended.2;
+      waited = ended.3;
+      ended = gone;
+      residual = ended.4.0;
+      answer = sent;
+      left = fewer;
+    } in
+    inr (subst (λ (x : DeviceState). EndsHead x now c.put_reply-in-End.new.out) c.self.view_is ends_it)
 
 pub returns-in-End-clause-stands : goal.returns-in-End-clause-stands
 returns-in-End-clause-stands g c = λ first e at.
     let s = c.self.inside in
-    let d : DeviceState = record { store = s.store; shape = s.shape; head = s.head; held = s.held.items } in
+    let d : DeviceState = record { store = s.store; shape = s.shape; tasks = s.tasks.items; held = s.held.items } in
+    let lent : c.deref.result.now ≡ d.tasks = search rules in
     let before : DeviceStands d first e = subst (λ (x : DeviceState). DeviceStands x first e) (sym c.self.view_is) at in
     let sized = sizes_are d c.limits_of-limits.result s.luns c.limits_of-limits.ensures c.self.invariant.luns_served in
-    let ended = ends c.limits_of-limits.result s.luns s.head _ c.in-End.reply c.in-End.ensures.verdict in
-    let answers : (tasks : List Waiting) → KeepsTasks d.head d.held tasks → reply_of (sizes_of d) true tasks c.args.bytes.now ≡ Some (reply_upiu (Check ended.0.lun ended.0.tag ended.3.0 DataNotAsked)) =
-    λ tasks keeps. subst (λ (z : Sizes). reply_of z true tasks c.args.bytes.now ≡ Some (reply_upiu c.in-End.reply)) sized (c.in-End.ensures.follows s.store.geometry d.held tasks keeps)
-    ∙ ap (λ (r : Reply). Some (reply_upiu r)) ended.3.2 in
-    let sent = c.put_reply-in-End.ensures ∙ ap (λ (r : Reply). upiu_out (reply_upiu r)) ended.3.2 in
-    stands_without_head d ended.0 c.args.bytes.now c.put_reply-in-End.new.out ended.3.0 first e ended.1 ended.3.1 sent answers before
+    let ended = ends d.tasks c.in-End.reply (subst (λ (ts : List Task). EndsFirst ts c.in-End.reply) lent c.in-End.ensures.verdict) in
+    let queue = subst (IsQueue s.luns s.shape.units d.held) ended.2 c.self.invariant.queue in
+    let answers : (tasks : List Waiting) → KeepsTasks d.tasks d.held tasks → reply_of (sizes_of d) true tasks c.args.bytes.now ≡ Some (reply_upiu (Check ended.0.lun ended.0.tag ended.4.0 DataNotAsked)) =
+    λ tasks keeps. subst (λ (z : Sizes). reply_of z true tasks c.args.bytes.now ≡ Some (reply_upiu c.in-End.reply)) sized (c.in-End.ensures.follows s.store.geometry d.held tasks (subst (λ (ts : List Task). KeepsTasks ts d.held tasks) (sym lent) keeps))
+    ∙ ap (λ (r : Reply). Some (reply_upiu r)) ended.4.2 in
+    let sent = c.put_reply-in-End.ensures ∙ ap (λ (r : Reply). upiu_out (reply_upiu r)) ended.4.2 in
+    let gone : c.end_head.new.tasks.items ≡ ended.1 = c.end_head.ensures.tasks ∙ ap (drop 1) ended.2 in
+    let now = stands_without_head d ended.0 ended.1 c.args.bytes.now c.put_reply-in-End.new.out ended.4.0 s.luns s.shape.units first e ended.2 queue.2 ended.4.1 sent answers before in
+    rw (gone, c.end_head.ensures.held) now
 
 pub returns-in-End-clause-answers : goal.returns-in-End-clause-answers
 returns-in-End-clause-answers g c = λ tasks keeps.
     let s = c.self.inside in
-    let d : DeviceState = record { store = s.store; shape = s.shape; head = s.head; held = s.held.items } in
+    let d : DeviceState = record { store = s.store; shape = s.shape; tasks = s.tasks.items; held = s.held.items } in
+    let lent : c.deref.result.now ≡ d.tasks = search rules in
     let sized = sizes_are d c.limits_of-limits.result s.luns c.limits_of-limits.ensures c.self.invariant.luns_served in
-    let before : KeepsTasks d.head d.held tasks = subst (λ (x : DeviceState). KeepsTasks x.head x.held tasks) (sym c.self.view_is) keeps in
-    let answers = subst (λ (z : Sizes). reply_of z true tasks c.args.bytes.now ≡ Some (reply_upiu c.in-End.reply)) sized (c.in-End.ensures.follows s.store.geometry d.held tasks before) in
+    let before : KeepsTasks d.tasks d.held tasks = subst (λ (x : DeviceState). KeepsTasks x.tasks x.held tasks) (sym c.self.view_is) keeps in
+    let answers = subst (λ (z : Sizes). reply_of z true tasks c.args.bytes.now ≡ Some (reply_upiu c.in-End.reply)) sized (c.in-End.ensures.follows s.store.geometry d.held tasks (subst (λ (ts : List Task). KeepsTasks ts d.held tasks) (sym lent) before)) in
     let now = owes_events (sizes_of d) tasks c.args.bytes.now (reply_upiu c.in-End.reply) c.put_reply-in-End.new.out answers (no_effects d.store.luns (limits_of d.shape) d.store.geometry tasks c.args.bytes.now) c.put_reply-in-End.ensures in
     answers_same _ _ _ _ _ c.self.view_is now

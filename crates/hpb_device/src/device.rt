@@ -16,8 +16,8 @@ ghost use Rattle.std.specs.Bool.{OnFalse};
 
 use crate::accept::{Verdict, judge};
 use crate::advance::{Progress, advance};
-use crate::reply::{Reply, put_reply};
 use crate::queue::{end_head, head_of, keep_head};
+use crate::reply::{Reply, put_reply};
 use crate::task::{BURST_BYTES, TASKS, Task};
 use arrayvec::ArrayVec;
 use flash_pages::{ChipOp, Flash};
@@ -223,13 +223,7 @@ impl<F: Flash> Device<F> {
         if task.waits_for_data() {
             return Stepped::idle();
         }
-        let progress = advance(
-            &mut self.store,
-            &mut self.held,
-            task,
-            self.shape.units,
-            out,
-        );
+        let progress = advance(&mut self.store, &mut self.held, task, self.shape.units, out);
         leave(progress, &mut self.tasks, &mut self.held, out)
     }
 

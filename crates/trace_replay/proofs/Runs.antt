@@ -31,7 +31,7 @@ serves_more : (s : Sizes) (lines : List Line) (line : Line) (p mid now : Progres
 serves_more s [] line p mid now same serves leads = subst (λ (from : Progress). ServesLines s (line ∷ []) from now) same (now, serves, leads, refl)
 serves_more s (l ∷ lines) line p mid now served serves leads = (served.0, served.1, served.2, serves_more s lines line served.0 mid now served.3 serves leads)
 
-pub ran_begins : (start : DeviceState) (left w : Option (List ℕ)) (gathered : List ℕ) → start.head ≡ None → Rattle.std.proofs.Common.◌≤◌ 1 start.store.geometry.pages → gathered ≡ []
+pub ran_begins : (start : DeviceState) (left w : Option (List ℕ)) (gathered : List ℕ) → start.tasks ≡ [] → Rattle.std.proofs.Common.◌≤◌ 1 start.store.geometry.pages → gathered ≡ []
     → Ran (sizes_of start) left left 0 (StandsAndPrinted start start w w gathered)
 unfolding print
 ran_begins start left w gathered none some fresh = record {

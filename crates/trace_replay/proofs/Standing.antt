@@ -230,7 +230,7 @@ blank_leads start now before w gathered p at printed = record {
 -- what `receive` says of a device
 pub record Received (old new : DeviceState) (bytes out : List ℕ) (sent : Sent) : Type 0 where
   pub stands : (first : First) (e : History) → DeviceStands old first e → DeviceStands new first (followed_by (e ▹ Host bytes) (answer_events sent out))
-  pub answers : (tasks : List Task) → KeepsTasks old.head old.held tasks → answers_to (sizes_of old) true tasks bytes ≡ answer_events sent out
+  pub answers : (tasks : List Task) → KeepsTasks old.tasks old.held tasks → answers_to (sizes_of old) true tasks bytes ≡ answer_events sent out
   pub store : new.store ≡ old.store
   pub shape : new.shape ≡ old.shape
 

@@ -158,7 +158,7 @@ fn replay<S: Source, K: Sink, F: Flash>(
     source: &mut S,
     sink: &mut K,
 ) -> Status
-    requires begun { device.old.head ≡ None }
+    requires begun { device.old.tasks ≡ [] }
     requires some_page { 1 ≤ device.old.store.geometry.pages }
     requires fresh { buffers.old.output ≡ [] }
     ensures run { RunIs (sizes_of device.old) (IsLeft device.old device.new)

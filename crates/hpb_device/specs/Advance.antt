@@ -70,6 +70,7 @@ pub record Tells (units : ℕ) (task rest : Task) (out : List ℕ) : Type 0 wher
 -- the next data of a write were asked for
 pub record Asks (task rest : Task) (count : ℕ) (out : List ℕ) : Type 0 where
   pub all_come : task.come ≡ task.asked
+  pub all_programmed : BLOCK_BYTES * task.programmed ≡ task.come
   pub more : task.asked < bytes_taken task.command
   pub counted : count ≡ min BURST_BYTES (bytes_taken task.command - task.asked)
   pub sent : out ≡ upiu_out (transfer_upiu ReadyToTransfer task.lun task.tag task.asked count)

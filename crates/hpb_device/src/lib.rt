@@ -9,3 +9,6 @@ mod reply;
 mod task;
 
 pub use device::{Device, Sent, Stepped, Waits};
+
+#[cfg(test)]
+mod tests;

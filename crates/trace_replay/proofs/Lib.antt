@@ -1,5 +1,7 @@
 pub mod Gathered
-pub mod OneItem
+pub mod Numbers
+pub mod Options
+pub mod Rows
 pub mod Runs
 pub mod Shown
 pub mod Standing

@@ -1,6 +1,8 @@
 -- What a run promises of its events and of the chip, from where its device was left.
-use Rattle.std.proofs.Common.{◌≡◌, ℕ, ◌*◌, List, [], ◌∷◌, ◌++◌, Option, Some, None, ◌∙◌, ap, subst, inr}
-use Rattle.std.specs.Prelude.{Contains}
+use Rattle.std.proofs.Common.{◌≡◌, ℕ, ◌*◌, ◌-◌, ◌^◌, ◌≤◌, min, List, [], ◌∷◌, ◌++◌, Option, Some, None, refl, sym, ◌∙◌, ap, subst, arith, inl, inr, ◌⊎◌}
+use Rattle.std.specs.Io.KnownBytes.{Appends}
+use Rattle.std.specs.Prelude.{Contains, Bool, true, false, not, ◌&&◌, ◌==◌}
+use Rattle.std.proofs.lemmas.Bool.Decides.{nat_tests}
 use Rattle.std.specs.Io.KnownBytes.{prepend_known}
 use Rattle.std.proofs.KnownBytes.{prepend_known-nil}
 use Rattle.trace_text.specs.Lines.{EndsAt, WhereTold}
@@ -22,39 +24,45 @@ use Rattle.hpb_device.specs.Sizes.{sizes}
 use Rattle.hpb_device.specs.Standing.{first_of, kept_of, sizes_of}
 use Rattle.hpb_device.specs.State.{DeviceState}
 use Rattle.trace_replay.specs.Moments.{Standing}
-use Rattle.trace_replay.specs.Run.{IsLeft, IsPlanned, ProgramIs, RunIs}
+use Rattle.flash_store.specs.Store.{CanServe}
+use Rattle.region_state.specs.Shape.{IsWithinLimits}
+use Rattle.trace_replay.specs.Options.{cut_shape}
+use Rattle.trace_replay.specs.Run.{IsLeft, IsNamed, IsPlanned, ProgramIs, RunIs, geometry_text}
+use Rattle.trace_replay.specs.Writes.{AppendsFront}
 use Rattle.trace_replay.specs.Showing.{ShowIs, ShowProgramIs}
-use Rattle.trace_replay.specs.Transcript.{IsTranscript, sizes_on, whole_chip, zero_unit}
+use Rattle.trace_replay.specs.Transcript.{IsTranscript, sizes_on, zero_unit}
+use Rattle.trace_replay.specs.Words.{IsReplay, named_chip, named_unit}
+use Rattle.region_state.specs.declared.shape.Shape.{Shape}
 use Rattle.trace_replay.specs.declared.status.Status.{Status}
 use Rattle.trace_replay.specs.declared.status.Status.TheVariants.{Done, BadLine, ReadFault, WriteFault, LongTrace, Usage, Memory, Geometry as BadGeometry, ChipFault, BadImage, BadCapture}
 use Rattle.trace_replay.proofs.Runs.{ran_with}
 
 -- a device that was made over an erased chip
-pub record IsFresh (device : DeviceState) (geometry : Geometry) (pages : List Page) (faults : ℕ) : Type 0 where
+pub record IsFresh (device : DeviceState) (shape : Shape) (geometry : Geometry) (pages : List Page) (faults : ℕ) : Type 0 where
   pub erased : pages ≡ erased_chip geometry
-  pub shape : device.shape ≡ whole_chip geometry
+  pub shape_is : device.shape ≡ shape
   pub luns : device.store.luns ≡ 1
-  pub units : device.store.units ≡ (whole_chip geometry).units
+  pub units : device.store.units ≡ shape.units
   pub pages_are : device.store.pages ≡ pages
   pub geometry_is : device.store.geometry ≡ geometry
   pub faults_are : device.store.faults ≡ faults
 
-pub fresh_sizes : (device : DeviceState) (geometry : Geometry) (pages : List Page) (faults : ℕ) → IsFresh device geometry pages faults → sizes_of device ≡ sizes_on geometry
-fresh_sizes device geometry pages faults fresh = λ i. sizes (fresh.luns i) (limits_of (fresh.shape i)) (fresh.geometry_is i)
+pub fresh_sizes : (device : DeviceState) (shape : Shape) (geometry : Geometry) (pages : List Page) (faults : ℕ) → IsFresh device shape geometry pages faults → sizes_of device ≡ sizes_on shape geometry
+fresh_sizes device shape geometry pages faults fresh = λ i. sizes (fresh.luns i) (limits_of (fresh.shape_is i)) (fresh.geometry_is i)
 
-pub fresh_first : (device : DeviceState) (geometry : Geometry) (pages : List Page) (faults : ℕ) → IsFresh device geometry pages faults → first_of device ≡ record { unit = zero_unit geometry; next = 0 }
-fresh_first device geometry pages faults fresh =
-    let on_chip : first_of device ≡ record { unit = unit_of 1 (whole_chip geometry).units (erased_chip geometry); next = next_seq (erased_chip geometry) } =
+pub fresh_first : (device : DeviceState) (shape : Shape) (geometry : Geometry) (pages : List Page) (faults : ℕ) → IsFresh device shape geometry pages faults → first_of device ≡ record { unit = zero_unit shape; next = 0 }
+fresh_first device shape geometry pages faults fresh =
+    let on_chip : first_of device ≡ record { unit = unit_of 1 shape.units (erased_chip geometry); next = next_seq (erased_chip geometry) } =
     λ i. record { unit = unit_of (fresh.luns i) (fresh.units i) ((fresh.pages_are ∙ fresh.erased) i); next = next_seq ((fresh.pages_are ∙ fresh.erased) i) } in
-    on_chip ∙ (λ i. record { unit = unit_of-erased 1 (whole_chip geometry).units (geometry.blocks * geometry.pages) i; next = next_seq-erased (geometry.blocks * geometry.pages) i })
+    on_chip ∙ (λ i. record { unit = unit_of-erased 1 shape.units (geometry.blocks * geometry.pages) i; next = next_seq-erased (geometry.blocks * geometry.pages) i })
 
 -- where a device is left is a transcript
-standing_transcript : (start device : DeviceState) (geometry : Geometry) (pages : List Page) (faults : ℕ) (p : Progress) → IsFresh start geometry pages faults → Standing start device p
-    → IsTranscript geometry faults device.store.faults device.store.pages p.events
-standing_transcript start device geometry pages faults p fresh at =
-    let sized : sizes_of device ≡ sizes_on geometry = at.sizes ∙ fresh_sizes start geometry pages faults fresh in
-    let here : Stands (sizes_on geometry) (record { unit = zero_unit geometry; next = 0 }) (kept_of device at.stands.tasks) p.events =
-    subst (λ (first : First). Stands (sizes_on geometry) first (kept_of device at.stands.tasks) p.events) (fresh_first start geometry pages faults fresh)
+standing_transcript : (start device : DeviceState) (shape : Shape) (geometry : Geometry) (pages : List Page) (faults : ℕ) (p : Progress) → IsFresh start shape geometry pages faults → Standing start device p
+    → IsTranscript shape geometry faults device.store.faults device.store.pages p.events
+standing_transcript start device shape geometry pages faults p fresh at =
+    let sized : sizes_of device ≡ sizes_on shape geometry = at.sizes ∙ fresh_sizes start shape geometry pages faults fresh in
+    let here : Stands (sizes_on shape geometry) (record { unit = zero_unit shape; next = 0 }) (kept_of device at.stands.tasks) p.events =
+    subst (λ (first : First). Stands (sizes_on shape geometry) first (kept_of device at.stands.tasks) p.events) (fresh_first start shape geometry pages faults fresh)
     (subst (λ (s : Sizes). Stands s (first_of start) (kept_of device at.stands.tasks) p.events) sized at.stands.stands) in
     record {
       sound = here.sound;
@@ -64,16 +72,16 @@ standing_transcript start device geometry pages faults p fresh at =
       failures = subst (λ (n : ℕ). FailuresWithin n device.store.faults p.events) fresh.faults_are at.faults;
       allowed = λ place inside.
           let luns : device.store.luns ≡ 1 = at.same.luns ∙ fresh.luns in
-          let units : device.store.units ≡ (whole_chip geometry).units = at.same.units ∙ fresh.units in
-          subst (λ (l : ℕ). Contains (candidates (sizes_on geometry) (zero_unit geometry) (p.events ▹ Reset) place) (block_at (sizes_on geometry) (unit_of l (whole_chip geometry).units device.store.pages) place)) luns
-          (subst (λ (u : ℕ). Contains (candidates (sizes_on geometry) (zero_unit geometry) (p.events ▹ Reset) place) (block_at (sizes_on geometry) (unit_of device.store.luns u device.store.pages) place)) units
-          (handed_back (sizes_on geometry) (record { unit = zero_unit geometry; next = 0 }) (kept_of device at.stands.tasks) p.events here place inside));
+          let units : device.store.units ≡ shape.units = at.same.units ∙ fresh.units in
+          subst (λ (l : ℕ). Contains (candidates (sizes_on shape geometry) (zero_unit shape) (p.events ▹ Reset) place) (block_at (sizes_on shape geometry) (unit_of l shape.units device.store.pages) place)) luns
+          (subst (λ (u : ℕ). Contains (candidates (sizes_on shape geometry) (zero_unit shape) (p.events ▹ Reset) place) (block_at (sizes_on shape geometry) (unit_of device.store.luns u device.store.pages) place)) units
+          (handed_back (sizes_on shape geometry) (record { unit = zero_unit shape; next = 0 }) (kept_of device at.stands.tasks) p.events here place inside));
     }
 
-pub left_transcript : (start now : DeviceState) (geometry : Geometry) (pages back : List Page) (faults faults_back : ℕ) (p : Progress) → IsFresh start geometry pages faults → back ≡ now.store.pages → faults_back ≡ now.store.faults → IsLeft start now p
-    → IsTranscript geometry faults faults_back back p.events
-left_transcript start now geometry pages back faults faults_back p fresh is_back is_faults (device, at, same) =
-    rw (is_back, is_faults, same) (standing_transcript start device geometry pages faults p fresh at)
+pub left_transcript : (start now : DeviceState) (shape : Shape) (geometry : Geometry) (pages back : List Page) (faults faults_back : ℕ) (p : Progress) → IsFresh start shape geometry pages faults → back ≡ now.store.pages → faults_back ≡ now.store.faults → IsLeft start now p
+    → IsTranscript shape geometry faults faults_back back p.events
+left_transcript start now shape geometry pages back faults faults_back p fresh is_back is_faults (device, at, same) =
+    rw (is_back, is_faults, same) (standing_transcript start device shape geometry pages faults p fresh at)
 
 -- what is said of the events may be weakened
 pub run_shows : (s : Sizes) (good better : Progress → Type 0) (left left_now w w_now : Option (List ℕ)) (source sink : Type 0) (limit : ℕ) (status : Status) → ((p : Progress) → good p → better p)
@@ -116,7 +124,7 @@ run_from_source s good left left_now w w_now held source sink limit (BadCapture 
 
 -- a replay that ended is what the program ends with
 program_of : (words : List (List ℕ)) (geometry : Geometry) (good : Progress → Type 0) (same : Type 0) (left left_now w w_now : Option (List ℕ)) (source sink : Type 0) (limit : ℕ) (status : Status)
-    → IsPlanned words geometry → RunIs (sizes_on geometry) good left left_now w w_now source sink limit status → ProgramIs words geometry good same left left_now w w_now source sink limit status
+    → IsPlanned words geometry → RunIs (sizes_on (named_unit words) geometry) good left left_now w w_now source sink limit status → ProgramIs words geometry good same left left_now w w_now source sink limit status
 program_of words geometry good same left left_now w w_now source sink limit Done planned run = (planned, run)
 program_of words geometry good same left left_now w w_now source sink limit (BadLine number) planned run = (planned, run)
 program_of words geometry good same left left_now w w_now source sink limit ReadFault planned run = (planned, run)
@@ -131,18 +139,18 @@ program_of words geometry good same left left_now w w_now source sink limit (Bad
 
 -- the promise of a run, in terms of the chip
 pub run_of_chip : (words : List (List ℕ)) (geometry : Geometry) (start now : DeviceState) (pages back : List Page) (faults faults_back : ℕ) (same : Type 0) (left left_now w w_now : Option (List ℕ)) (held held_now : List ℕ) (source sink : Type 0) (limit : ℕ) (status : Status)
-    → IsPlanned words geometry → IsFresh start geometry pages faults → held ≡ [] → back ≡ now.store.pages → faults_back ≡ now.store.faults
+    → IsPlanned words geometry → IsFresh start (named_unit words) geometry pages faults → held ≡ [] → back ≡ now.store.pages → faults_back ≡ now.store.faults
     → RunIs (sizes_of start) (IsLeft start now) (prepend_known held left) (prepend_known held_now left_now) w w_now source sink limit status
-    → ProgramIs words geometry (λ p. IsTranscript geometry faults faults_back back p.events) same left left_now w w_now source sink limit status
+    → ProgramIs words geometry (λ p. IsTranscript (named_unit words) geometry faults faults_back back p.events) same left left_now w w_now source sink limit status
 run_of_chip words geometry start now pages back faults faults_back same left left_now w w_now held held_now source sink limit status planned fresh none is_back is_faults run =
-    let good : Progress → Type 0 = λ p. IsTranscript geometry faults faults_back back p.events in
+    let good : Progress → Type 0 = λ p. IsTranscript (named_unit words) geometry faults faults_back back p.events in
     let from : prepend_known held left ≡ left = ap (λ (l : List ℕ). prepend_known l left) none ∙ prepend_known-nil left in
-    let run1 : RunIs (sizes_on geometry) (IsLeft start now) left (prepend_known held_now left_now) w w_now source sink limit status =
-    subst (λ (s : Sizes). RunIs s (IsLeft start now) left (prepend_known held_now left_now) w w_now source sink limit status) (fresh_sizes start geometry pages faults fresh)
+    let run1 : RunIs (sizes_on (named_unit words) geometry) (IsLeft start now) left (prepend_known held_now left_now) w w_now source sink limit status =
+    subst (λ (s : Sizes). RunIs s (IsLeft start now) left (prepend_known held_now left_now) w w_now source sink limit status) (fresh_sizes start (named_unit words) geometry pages faults fresh)
     (subst (λ (l : Option (List ℕ)). RunIs (sizes_of start) (IsLeft start now) l (prepend_known held_now left_now) w w_now source sink limit status) from run) in
     program_of words geometry good same left left_now w w_now source sink limit status planned
-    (run_from_source (sizes_on geometry) good left left_now w w_now held_now source sink limit status
-    (run_shows (sizes_on geometry) (IsLeft start now) good left (prepend_known held_now left_now) w w_now source sink limit status (λ p at. left_transcript start now geometry pages back faults faults_back p fresh is_back is_faults at) run1))
+    (run_from_source (sizes_on (named_unit words) geometry) good left left_now w w_now held_now source sink limit status
+    (run_shows (sizes_on (named_unit words) geometry) (IsLeft start now) good left (prepend_known held_now left_now) w w_now source sink limit status (λ p at. left_transcript start now (named_unit words) geometry pages back faults faults_back p fresh is_back is_faults at) run1))
 
 -- what was shown of a text that comes from a source alone
 pub show_from_source : (left left_now w w_now : Option (List ℕ)) (held held_now : List ℕ) (source sink : Type 0) (limit : ℕ) (status : Status) → held ≡ []
@@ -163,3 +171,57 @@ show_from_source left left_now w w_now held held_now source sink limit status no
     show_by_status left left_now w w_now held source sink limit ChipFault is = absurd is
     show_by_status left left_now w w_now held source sink limit (BadImage fault) is = absurd is
     show_by_status left left_now w w_now held source sink limit (BadCapture offset fault) is = absurd is
+
+uncut : (shape : Shape) → shape.units ≤ 2 ^ 32 - 1 → shape.region_exp ≤ 255 → shape.sub_exp ≤ 255 → shape.held ≤ 255 → cut_shape shape ≡ shape
+uncut shape units region sub held =
+    let units_same : min shape.units (2 ^ 32 - 1) ≡ shape.units = omega (arith, units) in
+    let region_same : min shape.region_exp 255 ≡ shape.region_exp = omega (arith, region) in
+    let sub_same : min shape.sub_exp 255 ≡ shape.sub_exp = omega (arith, sub) in
+    let held_same : min shape.held 255 ≡ shape.held = omega (arith, held) in
+    λ i. record { units = units_same i; region_exp = region_same i; sub_exp = sub_same i; held = held_same i; mode = shape.mode }
+
+-- a shape whose numbers are within their limits isn't cut
+
+pub cut_within : (shape : Shape) → IsWithinLimits shape → cut_shape shape ≡ shape
+cut_within shape limits = uncut shape (omega (arith, limits.units)) (omega (arith, limits.region)) (omega (arith, limits.region, limits.a_subregion_in_a_region)) (omega (arith, limits.held))
+
+pub within_cut : (shape : Shape) → IsWithinLimits (cut_shape shape) → cut_shape shape ≡ shape
+within_cut shape limits = uncut shape (omega (arith, limits.units)) (omega (arith, limits.region)) (omega (arith, limits.region, limits.a_subregion_in_a_region)) (omega (arith, limits.held))
+
+-- what the device says of the shape that was cut, of the shape that the words name
+
+pub names_chip : (words : List (List ℕ)) (geometry chip : Geometry) (unit : Shape) → chip ≡ named_chip words → unit ≡ cut_shape (named_unit words) → geometry ≡ chip
+    → IsWithinLimits unit × CanServe geometry 1 unit.units → IsNamed words geometry × (unit ≡ named_unit words)
+names_chip words geometry chip unit chip_is unit_is same (limits, serves) =
+    let is : unit ≡ named_unit words = unit_is ∙ within_cut (named_unit words) (subst IsWithinLimits unit_is limits) in
+    ((same ∙ chip_is, subst IsWithinLimits is limits, subst (λ (s : Shape). CanServe geometry 1 s.units) is serves), is)
+
+pub names_no_chip : (words : List (List ℕ)) (geometry : Geometry) (unit : Shape) → unit ≡ cut_shape (named_unit words)
+    → ¬ (IsWithinLimits unit × CanServe geometry 1 unit.units) → ¬ IsNamed words geometry
+names_no_chip words geometry unit unit_is none (same, limits, serves) =
+    let is : named_unit words ≡ unit = sym (unit_is ∙ cut_within (named_unit words) limits) in
+    none (subst IsWithinLimits is limits, subst (λ (s : Shape). CanServe geometry 1 s.units) is serves)
+
+-- a test of two geometries
+
+pub same_chip : (a b : Geometry) (differs : Bool) → differs ≡ not (a.blocks == b.blocks && a.pages == b.pages) → differs ≡ false → a ≡ b
+same_chip a b differs test none =
+    let blocks : a.blocks ≡ b.blocks = grind (arith, nat_tests) in
+    let pages : a.pages ≡ b.pages = grind (arith, nat_tests) in
+    λ i. record { blocks = blocks i; pages = pages i }
+
+pub other_chip : (a b : Geometry) (differs : Bool) → differs ≡ not (a.blocks == b.blocks && a.pages == b.pages) → differs ≡ true → a ≡ b → ⊥
+other_chip a b differs test some same =
+    let blocks : a.blocks ≡ b.blocks = ap (λ (g : Geometry). g.blocks) same in
+    let pages : a.pages ≡ b.pages = ap (λ (g : Geometry). g.pages) same in
+    absurd (grind (arith, nat_tests))
+
+-- a run that is refused
+
+pub refused_geometry : (words : List (List ℕ)) (geometry : Geometry) (good : Progress → Type 0) (same : Type 0) (left left_now w w_now : Option (List ℕ)) (source sink : Type 0) (limit : ℕ) (status : Status)
+    → IsReplay words → ¬ IsNamed words geometry → same → ((status ≡ BadGeometry) × Appends w w_now geometry_text) ⊎ ((status ≡ WriteFault) × AppendsFront w w_now geometry_text × sink)
+    → ProgramIs words geometry good same left left_now w w_now source sink limit status
+refused_geometry words geometry good same left left_now w w_now source sink limit status replay differs kept (inl (is, all)) =
+    subst (λ (s : Status). ProgramIs words geometry good same left left_now w w_now source sink limit s) (sym is) (replay, differs, kept, all)
+refused_geometry words geometry good same left left_now w w_now source sink limit status replay differs kept (inr (is, cut, rose)) =
+    subst (λ (s : Status). ProgramIs words geometry good same left left_now w w_now source sink limit s) (sym is) (inl (geometry_text, inr (replay, differs, refl), kept, cut, rose))

@@ -6,3 +6,4 @@ pub mod Status
 pub mod Transcript
 pub mod Words
 pub mod Writes
+pub mod Options

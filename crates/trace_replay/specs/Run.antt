@@ -18,8 +18,8 @@ use Rattle.trace_replay.specs.declared.status.Status.TheVariants.{Done, BadLine,
 use Rattle.flash_pages.specs.declared.chip.Geometry.{Geometry}
 use Rattle.flash_store.specs.Store.{CanServe}
 use Rattle.region_state.specs.Shape.{IsWithinLimits}
-use Rattle.trace_replay.specs.Transcript.{sizes_on, whole_chip}
-use Rattle.trace_replay.specs.Words.{IsReplay}
+use Rattle.trace_replay.specs.Transcript.{sizes_on}
+use Rattle.trace_replay.specs.Words.{IsReplay, named_chip, named_unit}
 
 -- these lines were taken, one after another
 abbrev pub TakesLines : Option (List ℕ) → List (List ℕ) → Option (List ℕ) → Type 0
@@ -135,25 +135,29 @@ usage_text = codes "E usage\n"
 abbrev pub geometry_text : List ℕ
 geometry_text = codes "E geometry\n"
 
--- the one word of the command was given, and the chip can hold its unit
+-- the chip is the one that the words name, and can hold the unit that they name
+abbrev pub IsNamed : List (List ℕ) → Geometry → Type 0
+IsNamed words geometry = (geometry ≡ named_chip words) × IsWithinLimits (named_unit words) × CanServe geometry 1 (named_unit words).units
+
+-- the words are in form, and the chip serves what they name
 abbrev pub IsPlanned : List (List ℕ) → Geometry → Type 0
-IsPlanned words geometry = IsReplay words × IsWithinLimits (whole_chip geometry) × CanServe geometry 1 (whole_chip geometry).units
+IsPlanned words geometry = IsReplay words × IsNamed words geometry
 
 -- why no line is taken, and the text that says so
 abbrev pub IsRefusedRun : List (List ℕ) → Geometry → List ℕ → Type 0
 IsRefusedRun words geometry text = (¬ IsReplay words × (text ≡ usage_text))
-    ⊎ (IsReplay words × ¬ (IsWithinLimits (whole_chip geometry) × CanServe geometry 1 (whole_chip geometry).units) × (text ≡ geometry_text))
+    ⊎ (IsReplay words × ¬ IsNamed words geometry × (text ≡ geometry_text))
 
 -- What a run leaves at each status. `same` says that nothing was read, and the chip is as it came.
 abbrev pub ProgramIs : List (List ℕ) → Geometry → (good : Progress → Type 0) → (same : Type 0) → (left left_now written written_now : Option (List ℕ)) → (source_rose sink_rose : Type 0) → ℕ → Status → Type 0
 ProgramIs words geometry good same left left_now written written_now source_rose sink_rose limit Usage =
     ¬ IsReplay words × same × Appends written written_now usage_text
 ProgramIs words geometry good same left left_now written written_now source_rose sink_rose limit BadGeometry =
-    IsReplay words × ¬ (IsWithinLimits (whole_chip geometry) × CanServe geometry 1 (whole_chip geometry).units) × same × Appends written written_now geometry_text
+    IsReplay words × ¬ IsNamed words geometry × same × Appends written written_now geometry_text
 ProgramIs words geometry good same left left_now written written_now source_rose sink_rose limit Memory =
     IsPlanned words geometry × same × (written_now ≡ written)
 ProgramIs words geometry good same left left_now written written_now source_rose sink_rose limit WriteFault =
     ((text : List ℕ) × IsRefusedRun words geometry text × same × AppendsFront written written_now text × sink_rose)
-    ⊎ (IsPlanned words geometry × RunIs (sizes_on geometry) good left left_now written written_now source_rose sink_rose limit WriteFault)
+    ⊎ (IsPlanned words geometry × RunIs (sizes_on (named_unit words) geometry) good left left_now written written_now source_rose sink_rose limit WriteFault)
 ProgramIs words geometry good same left left_now written written_now source_rose sink_rose limit status =
-    IsPlanned words geometry × RunIs (sizes_on geometry) good left left_now written written_now source_rose sink_rose limit status
+    IsPlanned words geometry × RunIs (sizes_on (named_unit words) geometry) good left left_now written written_now source_rose sink_rose limit status

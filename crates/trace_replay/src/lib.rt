@@ -19,3 +19,5 @@ mod layout_tests;
 mod tests;
 #[cfg(test)]
 mod texts;
+#[cfg(test)]
+mod words_tests;

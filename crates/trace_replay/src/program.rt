@@ -5,20 +5,20 @@ ghost use Rattle.std.specs.Io.KnownBytes.{Appends, prepend_known};
 ghost use Rattle.hpb_device.specs.Standing.{sizes_of};
 ghost use Rattle.trace_replay.specs.Run.{EndsLong, Finishes, IsLeft, ProgramIs, RunIs, bad_line_text};
 ghost use Rattle.trace_replay.specs.Showing.{ShowProgramIs};
-ghost use Rattle.trace_replay.specs.Transcript.{IsTranscript, whole_chip};
+ghost use Rattle.trace_replay.specs.Options.{cut_shape};
+ghost use Rattle.trace_replay.specs.Transcript.{IsTranscript};
 ghost use Rattle.trace_replay.specs.Writes.{AppendsFront};
-ghost use Rattle.trace_replay.specs.Words.{IsReplay, IsShow};
+ghost use Rattle.trace_replay.specs.Words.{IsReplay, IsShow, named_chip, named_unit};
 
 use crate::output::{Output, write_all};
 use crate::replay::{Buffers, Turn, make_room, take_turn};
 use crate::show::show;
 use crate::status::{Outcome, Status};
-use crate::words::{is_replay, is_show};
-use flash_pages::{Flash, Geometry};
+use crate::words::{Command, Named, command_of};
+use flash_pages::Flash;
 use hpb_device::Device;
 use hpb_outside::{Failed, NewFault, Sink, Source};
 use itoa::Buffer;
-use region_state::{Mode, Shape};
 use std::alloc::Global;
 
 /// The lines that a trace has at most.
@@ -26,8 +26,8 @@ pub(crate) const LINES: u32 = 1_000_000;
 
 /// Runs a command over a source, and prints to a sink. The words are those after the program's name.
 ///
-/// `replay` replays a trace against a device over an erased chip, and prints the transcript. The device has one logical
-/// unit, of as many blocks as the chip has pages but for three erase blocks. `show` prints one line for each line of a
+/// `replay` replays a trace against a device with one logical unit over an erased chip, and prints the transcript. Its
+/// options name the chip and the unit, and the chip has to be the named one. `show` prints one line for each line of a
 /// transcript, and leaves the chip alone.
 pub fn run<S: Source, K: Sink, F: Flash>(
     alloc: Global,
@@ -39,7 +39,8 @@ pub fn run<S: Source, K: Sink, F: Flash>(
     requires { F.pages flash ≡ erased_chip (F.geometry flash) }
     // What was read and written, why the run ended, and what is known of the events and of the chip that is handed back.
     ensures run { ¬ IsShow (map string_bytes words.now) → ProgramIs (map string_bytes words.now) (F.geometry flash)
-        (λ p. IsTranscript (F.geometry flash) (F.faults flash) (F.faults result.flash) (F.pages result.flash) p.events)
+        (λ p. IsTranscript (named_unit (map string_bytes words.now)) (F.geometry flash)
+        (F.faults flash) (F.faults result.flash) (F.pages result.flash) p.events)
         ((source.new ≡ source.old) × (F.pages result.flash ≡ F.pages flash))
         (S.left source.old) (S.left source.new) (K.written sink.old) (K.written sink.new)
         (Rose (S.faults source.old) (S.faults source.new)) (Rose (K.faults sink.old) (K.faults sink.new)) LINES result.status }
@@ -52,26 +53,28 @@ pub fn run<S: Source, K: Sink, F: Flash>(
     ensures source_later { S.faults source.old ≤ S.faults source.new }
     ensures sink_later { K.faults sink.old ≤ K.faults sink.new }
 {
-    if is_replay(words) {
-        return run_replay(alloc, source, sink, flash);
+    match command_of(words) {
+        Some(Command::Replay(named)) => run_replay(alloc, named, source, sink, flash),
+        Some(Command::Show) => {
+            let status = run_show(alloc, source, sink);
+            Outcome { status, flash }
+        }
+        None => refused(sink, Status::Usage, b"E usage\n", flash),
     }
-    if is_show(words) {
-        let status = run_show(alloc, source, sink);
-        return Outcome { status, flash };
-    }
-    refused(sink, Status::Usage, b"E usage\n", flash)
 }
 
-/// Replays a trace.
+/// Replays a trace against a device over the chip, which has to be the named one.
 fn run_replay<S: Source, K: Sink, F: Flash>(
     alloc: Global,
+    named: Named,
     source: &mut S,
     sink: &mut K,
     flash: F,
 ) -> Outcome<F>
     requires { F.pages flash ≡ erased_chip (F.geometry flash) }
-    ensures run { (words : List (List ℕ)) → IsReplay words → ProgramIs words (F.geometry flash)
-        (λ p. IsTranscript (F.geometry flash) (F.faults flash) (F.faults result.flash) (F.pages result.flash) p.events)
+    ensures run { (words : List (List ℕ)) → IsReplay words → named.chip ≡ named_chip words → named.unit ≡ cut_shape (named_unit words)
+        → ProgramIs words (F.geometry flash)
+        (λ p. IsTranscript (named_unit words) (F.geometry flash) (F.faults flash) (F.faults result.flash) (F.pages result.flash) p.events)
         ((source.new ≡ source.old) × (F.pages result.flash ≡ F.pages flash))
         (S.left source.old) (S.left source.new) (K.written sink.old) (K.written sink.new)
         (Rose (S.faults source.old) (S.faults source.new)) (Rose (K.faults sink.old) (K.faults sink.new)) LINES result.status }
@@ -79,8 +82,10 @@ fn run_replay<S: Source, K: Sink, F: Flash>(
     ensures source_later { S.faults source.old ≤ S.faults source.new }
     ensures sink_later { K.faults sink.old ≤ K.faults sink.new }
 {
-    let shape = whole_chip(flash.geometry());
-    let mut device = match Device::new(alloc, flash, shape, 1) {
+    if flash.geometry() != named.chip {
+        return refused(sink, Status::Geometry, b"E geometry\n", flash);
+    }
+    let mut device = match Device::new(alloc, flash, named.unit, 1) {
         Ok(device) => device,
         Err((flash, NewFault::Geometry)) => {
             return refused(sink, Status::Geometry, b"E geometry\n", flash);
@@ -117,22 +122,6 @@ fn run_show<S: Source, K: Sink>(alloc: Global, source: &mut S, sink: &mut K) -> 
         return Status::Memory;
     };
     show(&mut buffers, source, sink)
-}
-
-/// The shape of a unit with all blocks that a chip of this geometry can hold.
-fn whole_chip(geometry: Geometry) -> Shape
-    ensures { result ≡ whole_chip geometry }
-{
-    Shape {
-        units: geometry
-            .blocks
-            .saturating_sub(3)
-            .saturating_mul(geometry.pages),
-        region_exp: 10,
-        sub_exp: 8,
-        held: 4,
-        mode: Mode::Device,
-    }
 }
 
 /// The outcome where nothing is replayed.

@@ -8,7 +8,7 @@ pub enum Status {
     Done,
     /// This line, counted from 1, is the first that the trace can't have.
     BadLine(u32),
-    /// The words name no command.
+    /// The words aren't in form.
     Usage,
     /// A read of the source failed.
     ReadFault,
@@ -16,7 +16,7 @@ pub enum Status {
     WriteFault,
     /// There isn't enough memory.
     Memory,
-    /// The chip can't hold the unit.
+    /// A number of the words is outside its limits, or the chip isn't the one that they name.
     Geometry,
     /// More lines follow than a trace may have.
     LongTrace,

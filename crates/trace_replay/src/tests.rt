@@ -194,7 +194,8 @@ fn run_words(alloc: Global, words: &[&str], trace: &[u8], outside: Outside) -> R
 }
 
 fn replay(alloc: Global, trace: &[u8], outside: Outside) -> Result<Ran, Fail> {
-    run_words(alloc, &["replay"], trace, outside)
+    let words = ["replay", "--blocks", "8", "--pages", "4"];
+    run_words(alloc, &words, trace, outside)
 }
 
 /// Replays a script, and tells whether all of it was printed.
@@ -525,23 +526,6 @@ fn a_trace_has_a_million_lines_at_most(rt: HostRuntime) -> Result<(), Fail> {
     Ok(())
 }
 
-/// The geometry of the chip that these words name.
-fn named(alloc: Global, words: &[&str]) -> Result<Geometry, Fail> {
-    let mut names = Vec::new(alloc);
-    for word in words {
-        names.push(String::from_str(alloc, *word)?)?;
-    }
-    Ok(chip_of(alloc, &names)?.geometry())
-}
-
-#[test]
-fn words_name_a_chip(rt: HostRuntime) -> Result<(), Fail> {
-    for (words, blocks, pages) in [(["replay"].as_slice(), 64, 64), (["show"].as_slice(), 4, 2)] {
-        assert_eq!(rt; named(rt.alloc(), words)?, Geometry { blocks, pages });
-    }
-    Ok(())
-}
-
 /// A chip of 2 erase blocks of 2 pages, which is smaller than those that are served. Each of its calls fails.
 #[derive(Drop)]
 struct LittleChip {
@@ -601,7 +585,9 @@ impl Flash for LittleChip {
 fn a_chip_that_is_too_small_is_refused(rt: HostRuntime) -> Result<(), Fail> {
     let alloc = rt.alloc();
     let mut words = Vec::new(alloc);
-    words.push(String::from_str(alloc, "replay")?)?;
+    for word in ["replay", "--blocks", "2", "--pages", "2"] {
+        words.push(String::from_str(alloc, word)?)?;
+    }
     let mut source = MemSource::new(Vec::new(alloc), Vec::new(alloc), Vec::new(alloc));
     let mut sink = MemSink::new(alloc, ROOM, Vec::new(alloc))?;
     let outcome = run(

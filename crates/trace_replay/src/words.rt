@@ -1,54 +1,269 @@
-ghost use Rattle.std.specs.Prelude.{◌≡◌, ◌↔◌, [], map, string_bytes, IsTrue, IfOk};
-ghost use Rattle.flash_pages.specs.Chip.{erased_chip};
+ghost use Rattle.std.specs.Prelude.{◌≡◌, min, [], map, string_bytes, IfOk, MatchOption};
+ghost use Rattle.std.specs.Char.{is_ascii_digit};
+ghost use Rattle.std.specs.List.{list_all};
+ghost use Rattle.flash_pages.specs.Chip.{IsWithinLimits, erased_chip};
 ghost use Rattle.flash_pages.specs.MemFlash.{geometry_of, pages_of, plan_of};
-ghost use Rattle.trace_replay.specs.Words.{IsReplay, IsShow};
+ghost use Rattle.trace_replay.specs.Options.{IsCommand, chip_given, cut_shape, first_said, mode_said, number_said, option_named, unit_given, with_value, with_words};
+ghost use Rattle.trace_replay.specs.Words.{IsReplay, IsShow, is_number, named_chip};
 
 use flash_pages::{Geometry, MemFlash};
 use hpb_outside::NoMemory;
+use region_state::{Mode, Shape};
 use std::alloc::Global;
 
-/// The chip that the words name where they name no other: 16 MiB.
-const NAMED: Geometry = Geometry {
-    blocks: 64,
-    pages: 64,
-};
-
-/// The chip where the words are no command.
+/// The chip where the words name none that is served.
 const LEAST: Geometry = Geometry {
     blocks: 4,
     pages: 2,
 };
 
-/// Whether the words are the one word `replay`.
-pub(crate) fn is_replay(words: &[String]) -> bool
-    ensures { IsTrue result ↔ IsReplay (map string_bytes words.now) }
+/// What the words ask for.
+#[derive(Clone, Copy)]
+pub(crate) enum Command {
+    /// To replay a trace.
+    Replay(Named),
+    /// To show the lines of a text.
+    Show,
+}
+
+/// What the words of `replay` name. A number that its field can't hold stands there as the last that it can, which is
+/// outside the limits too.
+#[derive(Clone, Copy)]
+pub(crate) struct Named {
+    /// The chip.
+    pub(crate) chip: Geometry,
+    /// The logical unit.
+    pub(crate) unit: Shape,
+}
+
+/// An option of `replay`.
+#[derive(Clone, Copy)]
+enum OptionName {
+    Blocks,
+    Pages,
+    Units,
+    Region,
+    Sub,
+    Held,
+    Mode,
+}
+
+/// The values of the options that were read.
+#[derive(Clone, Copy)]
+struct Given {
+    blocks: Option<u32>,
+    pages: Option<u32>,
+    units: Option<u32>,
+    region: Option<u32>,
+    sub: Option<u32>,
+    held: Option<u32>,
+    mode: Option<Mode>,
+}
+
+/// No option was read yet.
+const NOTHING: Given = Given {
+    blocks: None,
+    pages: None,
+    units: None,
+    region: None,
+    sub: None,
+    held: None,
+    mode: None,
+};
+
+/// The command of the words, or nothing where they aren't in form.
+pub(crate) fn command_of(words: &[String]) -> Option<Command>
+    ensures { MatchOption result (¬ IsReplay (map string_bytes words.now) × ¬ IsShow (map string_bytes words.now))
+        (λ command. IsCommand (map string_bytes words.now) command) }
 {
-    match words {
-        [word] => word.as_str() == "replay",
-        _ => false,
+    let [command, options @ ..] = words else {
+        return None;
+    };
+    if command.as_str() == "replay" {
+        let given = read_options(options)?;
+        return Some(Command::Replay(given.named()));
+    }
+    if command.as_str() == "show" && options.is_empty() {
+        return Some(Command::Show);
+    }
+    None
+}
+
+/// The options and values of these words, or nothing where they aren't in form.
+#[tactic(auto, unfolding(crate::specs::Options::with_words))]
+fn read_options(words: &[String]) -> Option<Given>
+    ensures { result ≡ with_words NOTHING (map string_bytes words.now) }
+{
+    let mut given = NOTHING;
+    let mut rest = words;
+    while let [name, value, more @ ..] = rest {
+        given = given.with(option_named(name)?, value)?;
+        rest = more;
+    }
+    if rest.is_empty() { Some(given) } else { None }
+}
+
+/// The option of this name.
+#[tactic(auto, unfolding(crate::specs::Options::option_named))]
+fn option_named(name: &str) -> Option<OptionName>
+    ensures { result ≡ option_named name.now }
+{
+    match name {
+        "--blocks" => Some(OptionName::Blocks),
+        "--pages" => Some(OptionName::Pages),
+        "--units" => Some(OptionName::Units),
+        "--region" => Some(OptionName::Region),
+        "--sub" => Some(OptionName::Sub),
+        "--held" => Some(OptionName::Held),
+        "--mode" => Some(OptionName::Mode),
+        _ => None,
     }
 }
 
-/// Whether the words are the one word `show`.
-pub(crate) fn is_show(words: &[String]) -> bool
-    ensures { IsTrue result ↔ IsShow (map string_bytes words.now) }
-{
-    match words {
-        [word] => word.as_str() == "show",
-        _ => false,
+impl Given {
+    /// With the value of one more option, or nothing where the option has one already, or the value isn't of its form.
+    #[tactic(auto, unfolding(crate::specs::Options::with_value))]
+    fn with(self, option: OptionName, value: &str) -> Option<Given>
+        ensures { result ≡ with_value self option value.now }
+    {
+        match option {
+            OptionName::Blocks => Some(Given {
+                blocks: Some(first_number(self.blocks, value)?),
+                ..self
+            }),
+            OptionName::Pages => Some(Given {
+                pages: Some(first_number(self.pages, value)?),
+                ..self
+            }),
+            OptionName::Units => Some(Given {
+                units: Some(first_number(self.units, value)?),
+                ..self
+            }),
+            OptionName::Region => Some(Given {
+                region: Some(first_number(self.region, value)?),
+                ..self
+            }),
+            OptionName::Sub => Some(Given {
+                sub: Some(first_number(self.sub, value)?),
+                ..self
+            }),
+            OptionName::Held => Some(Given {
+                held: Some(first_number(self.held, value)?),
+                ..self
+            }),
+            OptionName::Mode => Some(Given {
+                mode: Some(first_mode(self.mode, value)?),
+                ..self
+            }),
+        }
+    }
+
+    /// The chip and the unit that are named, with the defaults.
+    fn named(self) -> Named
+        ensures { result ≡ record { chip = chip_given self; unit = cut_shape (unit_given self) } }
+    {
+        let chip = Geometry {
+            blocks: self.blocks.unwrap_or(64),
+            pages: self.pages.unwrap_or(64),
+        };
+        let room = chip.blocks.saturating_sub(3).saturating_mul(chip.pages);
+        let unit = Shape {
+            units: self.units.unwrap_or(room),
+            region_exp: cut(self.region.unwrap_or(10)),
+            sub_exp: cut(self.sub.unwrap_or(8)),
+            held: cut(self.held.unwrap_or(4)),
+            mode: self.mode.unwrap_or(Mode::Device),
+        };
+        Named { chip, unit }
     }
 }
 
-/// An erased chip whose calls don't fail: of 64 erase blocks of 64 pages where the words are the one word `replay`,
-/// else of 4 by 2. It fails where there isn't enough memory.
+/// A number, at most 255.
+fn cut(number: u32) -> u8
+    ensures { result ≡ min number 255 }
+{
+    u8::try_from(number).unwrap_or(u8::MAX)
+}
+
+/// A number where there was none before.
+fn first_number(before: Option<u32>, word: &str) -> Option<u32>
+    ensures { result ≡ first_said before (number_said word.now) }
+{
+    if before.is_some() {
+        return None;
+    }
+    number_said(word)
+}
+
+/// One to nine decimal digits, as a number.
+#[tactic(auto, unfolding(crate::specs::Options::number_said))]
+fn number_said(word: &str) -> Option<u32>
+    ensures { result ≡ number_said word.now }
+{
+    if !is_number(word.as_bytes()) {
+        return None;
+    }
+    word.parse().ok()
+}
+
+/// Whether a word is one to nine decimal digits.
+fn is_number(word: &[u8]) -> bool
+    ensures { result ≡ is_number word.now }
+{
+    if word.is_empty() || word.len() > 9 {
+        return false;
+    }
+    has_only_digits(word)
+}
+
+fn has_only_digits(word: &[u8]) -> bool
+    ensures { result ≡ list_all is_ascii_digit word.now }
+{
+    word.iter().all(|c| c.is_ascii_digit())
+}
+
+/// A mode where there was none before.
+#[tactic(auto, unfolding(crate::specs::Options::mode_said))]
+fn first_mode(before: Option<Mode>, word: &str) -> Option<Mode>
+    ensures { result ≡ first_said before (mode_said word.now) }
+{
+    if before.is_some() {
+        return None;
+    }
+    match word {
+        "device" => Some(Mode::Device),
+        "host" => Some(Mode::Host),
+        _ => None,
+    }
+}
+
+/// An erased chip whose calls don't fail: the one that the words of `replay` name, where its geometry is within its
+/// limits, else of 4 erase blocks of 2 pages. It fails where there isn't enough memory.
 pub fn chip_of(alloc: Global, words: &[String]) -> Result<MemFlash, NoMemory>
     ensures erased { IfOk result (λ flash. pages_of flash ≡ erased_chip (geometry_of flash)) }
-    ensures named { IsReplay (map string_bytes words.now)
-        → IfOk result (λ flash. geometry_of flash ≡ record { blocks = 64; pages = 64 }) }
-    ensures least { ¬ IsReplay (map string_bytes words.now)
+    ensures named { IsReplay (map string_bytes words.now) → IsWithinLimits (named_chip (map string_bytes words.now))
+        → IfOk result (λ flash. geometry_of flash ≡ named_chip (map string_bytes words.now)) }
+    ensures least { ¬ (IsReplay (map string_bytes words.now) × IsWithinLimits (named_chip (map string_bytes words.now)))
         → IfOk result (λ flash. geometry_of flash ≡ record { blocks = 4; pages = 2 }) }
     ensures faultless { IfOk result (λ flash. (plan_of flash).fail_at ≡ []) }
 {
-    let geometry = if is_replay(words) { NAMED } else { LEAST };
-    MemFlash::new(alloc, geometry, Vec::new(alloc))
+    MemFlash::new(alloc, named_geometry(words), Vec::new(alloc))
+}
+
+/// The geometry that the words of `replay` name, where it is within its limits, else the least.
+fn named_geometry(words: &[String]) -> Geometry
+    ensures limits { IsWithinLimits result }
+    ensures named { IsReplay (map string_bytes words.now) → IsWithinLimits (named_chip (map string_bytes words.now))
+        → result ≡ named_chip (map string_bytes words.now) }
+    ensures least { ¬ (IsReplay (map string_bytes words.now) × IsWithinLimits (named_chip (map string_bytes words.now)))
+        → result ≡ record { blocks = 4; pages = 2 } }
+{
+    let Some(Command::Replay(named)) = command_of(words) else {
+        return LEAST;
+    };
+    if named.chip.is_within_limits() {
+        named.chip
+    } else {
+        LEAST
+    }
 }

@@ -1,3 +1,4 @@
+pub mod Codes
 pub mod Gathered
 pub mod Numbers
 pub mod Options

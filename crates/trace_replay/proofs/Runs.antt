@@ -1,6 +1,7 @@
 -- A run goes on line by line, and how it ends.
 use Rattle.std.proofs.Common.{◌≡◌, ℕ, ◌+◌, List, [], ◌∷◌, ◌++◌, length, Option, Some, None, refl, sym, ◌∙◌, ap, subst, arith, inl, inr, ◌⊎◌, length-append}
 use Rattle.std.proofs.lemmas.List.{append_assoc, append-nil, map-append}
+use Rattle.std.proofs.lemmas.List.Elements.{All-nil, All-push}
 use Rattle.std.specs.Io.KnownBytes.{Appends, Keeps, prepend_known}
 use Rattle.flat_unit.specs.Print.{print}
 use Rattle.flat_unit.specs.Replays.{Progress, LineTo}
@@ -15,7 +16,7 @@ use Rattle.trace_text.specs.Lines.{TakesLine, EndsAt, WhereTold}
 use Rattle.trace_replay.specs.declared.status.Status.{Status}
 use Rattle.trace_replay.specs.declared.status.Status.TheVariants.{Done, BadLine, ReadFault, WriteFault, LongTrace, Usage, Memory, Geometry, ChipFault, BadImage, BadCapture}
 use Rattle.trace_replay.specs.Moments.{Standing, Leads, Cuts, IsServedLine}
-use Rattle.trace_replay.specs.Run.{TakesLines, Ran, RunIs, ServesLines, IsBadNext, IsCutNext, HasMore, LastIs, bad_line_text, long_text}
+use Rattle.trace_replay.specs.Run.{TakesLines, Ran, RunIs, IsBadNext, IsCutNext, HasMore, LastIs, bad_line_text, long_text}
 use Rattle.trace_replay.specs.Writes.{AppendsFront, HasWrittenUpTo}
 use Rattle.trace_replay.proofs.Written.{gathers_more, nothing_yet}
 
@@ -26,10 +27,6 @@ StandsAndPrinted start now before written gathered p = Standing start now p × H
 pub takes_more : (left : Option (List ℕ)) (texts : List (List ℕ)) (mid now : Option (List ℕ)) (text : List ℕ) → TakesLines left texts mid → WhereTold (TakesLine text) mid now → TakesLines left (texts ++ text ∷ []) now
 takes_more left [] mid now text same takes = (now, subst (λ (from : Option (List ℕ)). WhereTold (TakesLine text) from now) same takes, refl)
 takes_more left (t ∷ texts) mid now text taken takes = (taken.0, taken.1, takes_more taken.0 texts mid now text taken.2 takes)
-
-serves_more : (s : Sizes) (lines : List Line) (line : Line) (p mid now : Progress) → ServesLines s lines p mid → IsServedLine s mid line → LineTo s line mid now → ServesLines s (lines ++ line ∷ []) p now
-serves_more s [] line p mid now same serves leads = subst (λ (from : Progress). ServesLines s (line ∷ []) from now) same (now, serves, leads, refl)
-serves_more s (l ∷ lines) line p mid now served serves leads = (served.0, served.1, served.2, serves_more s lines line served.0 mid now served.3 serves leads)
 
 pub ran_begins : (start : DeviceState) (left w : Option (List ℕ)) (gathered : List ℕ) → start.tasks ≡ [] → Rattle.std.proofs.Common.◌≤◌ 1 start.store.geometry.pages → gathered ≡ []
     → Ran (sizes_of start) left left 0 (StandsAndPrinted start start w w gathered)
@@ -42,12 +39,12 @@ ran_begins start left w gathered none some fresh = record {
   parsed = refl;
   counted = refl;
   replays = refl;
-  serves = refl;
+  serves = All-nil IsServedLine;
   shows = (record { some_page = some; stands = begins_standing start none; sizes = refl; same = record { geometry = refl; luns = refl; units = refl }; faults = omega arith; unmoved = refl; alive = tt }, rw fresh (nothing_yet w []));
 }
 
 pub ran_more : (start old new : DeviceState) (left mid now before w written : Option (List ℕ)) (gathered gathered_now : List ℕ) (n next : ℕ) → (ran : Ran (sizes_of start) left mid n (StandsAndPrinted start old before w gathered))
-    → (text : List ℕ) (line : Line) → WhereTold (TakesLine text) mid now → trace_line text ≡ Some line → IsServedLine (sizes_of start) ran.moment line → Leads (LineTo (sizes_of start) line ran.moment) start new before written gathered_now → next ≡ n + 1
+    → (text : List ℕ) (line : Line) → WhereTold (TakesLine text) mid now → trace_line text ≡ Some line → IsServedLine line → Leads (LineTo (sizes_of start) line ran.moment) start new before written gathered_now → next ≡ n + 1
     → Ran (sizes_of start) left now next (StandsAndPrinted start new before written gathered_now)
 ran_more start old new left mid now before w written gathered gathered_now n next ran text line takes parses serves leads is = record {
   texts = ran.texts ++ text ∷ [];
@@ -57,7 +54,7 @@ ran_more start old new left mid now before w written gathered gathered_now n nex
   parsed = map-append trace_line ran.texts (text ∷ []) ∙ ((λ i. ran.parsed i ++ parses i ∷ []) ∙ sym (map-append (λ (l : Line). Some l) ran.lines (line ∷ [])));
   counted = omega (arith, length-append ran.texts (text ∷ []), ran.counted, is);
   replays = replays_more (sizes_of start) ran.lines line Rattle.flat_unit.specs.Replays.begun ran.moment leads.moment ran.replays leads.reached;
-  serves = serves_more (sizes_of start) ran.lines line Rattle.flat_unit.specs.Replays.begun ran.moment leads.moment ran.serves serves leads.reached;
+  serves = All-push IsServedLine ran.lines line ran.serves serves;
   shows = (leads.standing, leads.printed);
 }
 
@@ -106,9 +103,9 @@ module _ (s : Sizes) (good : Progress → Type 0) (left mid left_now before writ
   ends_unread result source (inl (is, all)) = subst RunEnds (sym is) (mid, n, ran_with s left mid n facts (λ p. good p × Appends before written (print p.events)) ran (well, wordless before written (print ran.moment.events) all), source)
   ends_unread result source (inr (is, cut, rose)) = subst RunEnds (sym is) (ends_cut [] (inl refl) cut rose)
 
-  pub ends_bad : (result : Status) (number : ℕ) → number ≡ n + 1 → IsBadNext s mid ran.moment → ((result ≡ BadLine number) × Appends before written (print ran.moment.events ++ bad_line_text number)) ⊎ ((result ≡ WriteFault) × AppendsFront before written (print ran.moment.events ++ bad_line_text number) × sink_rose) → RunEnds result
+  pub ends_bad : (result : Status) (number : ℕ) → number ≡ n + 1 → IsBadNext mid → ((result ≡ BadLine number) × Appends before written (print ran.moment.events ++ bad_line_text number)) ⊎ ((result ≡ WriteFault) × AppendsFront before written (print ran.moment.events ++ bad_line_text number) × sink_rose) → RunEnds result
   ends_bad result number counted bad (inl (is, all)) =
-      subst RunEnds (sym is) (mid, n, ran_with s left mid n facts (λ p. good p × IsBadNext s mid p × Appends before written (print p.events ++ bad_line_text number)) ran (well, bad, all), counted)
+      subst RunEnds (sym is) (mid, n, ran_with s left mid n facts (λ p. good p × IsBadNext mid × Appends before written (print p.events ++ bad_line_text number)) ran (well, bad, all), counted)
   ends_bad result number counted bad (inr (is, cut, rose)) = subst RunEnds (sym is) (ends_cut (bad_line_text number) (inr (inr (number, refl))) cut rose)
 
   pub ends_last : (result : Status) → n ≡ limit → LastIs before written (print ran.moment.events) mid left_now source_rose sink_rose result → RunEnds result

@@ -10,16 +10,8 @@ use Rattle.flat_unit.specs.History.{History, ◌▹◌, followed_by}
 use Rattle.flat_unit.specs.Print.{print, line_of}
 use Rattle.flat_unit.specs.Queue.{at_rest, on_after, tasks_after}
 use Rattle.flat_unit.specs.Replays.{Progress, Group, StepTo, StepsTo, LineTo, events_of, stepped, enough, has_asked, is_due, tasks_at, told, received, with_run, without_runs}
-use Rattle.flat_unit.specs.Reply.{reply_of, effects_of, fault_rejection}
-use Rattle.upiu_wire.specs.declared.fault.WireFault.{WireFault}
-use Rattle.upiu_wire.specs.declared.kind.Kind.{Kind}
-use Rattle.upiu_wire.specs.declared.kind.Kind.TheVariants.{Command, DataOut, NopOut, NopIn}
-use Rattle.upiu_wire.specs.Kind.{kind_of}
-use Rattle.upiu_wire.specs.Upiu.{Upiu as UpiuValue, upiu_at, upiu_out}
-use Rattle.upiu_wire.specs.WireFault.{number_of, wire_fault_of}
-use Rattle.upiu_wire.specs.Written.{blank_upiu, reject_upiu}
 use Rattle.flat_unit.specs.Sizes.{Sizes}
-use Rattle.flat_unit.specs.Sound.{answers_to, reply_events}
+use Rattle.flat_unit.specs.Sound.{answers_to}
 use Rattle.flat_unit.specs.Stands.{First}
 use Rattle.flat_unit.specs.Task.{Task}
 use Rattle.flat_unit.specs.Writes.{moves}
@@ -27,7 +19,7 @@ use Rattle.flash_pages.specs.declared.chip.ChipOp.{ChipOp}
 use Rattle.flash_pages.specs.Place.{Place}
 use Rattle.trace_replay.specs.Transcript.{NeverDead}
 use Rattle.flat_unit.specs.Trace.{Upiu, Drain, Blank}
-use Rattle.flat_unit.proofs.History.{print-followed_by, failures-followed_by, due_at_once, reply_to_fault, reply_to_kind}
+use Rattle.flat_unit.proofs.History.{print-followed_by, failures-followed_by, due_at_once}
 use Rattle.hpb_device.specs.declared.device.Sent.{Sent}
 use Rattle.hpb_device.specs.declared.device.Sent.TheVariants.{Nothing, Upiu as UpiuSent}
 use Rattle.hpb_device.specs.declared.device.Stepped.{Stepped}
@@ -37,12 +29,10 @@ use Rattle.hpb_device.specs.Calls.{GoesOn}
 use Rattle.hpb_device.specs.Keeps.{KeepsTasks}
 use Rattle.hpb_device.specs.Standing.{DeviceStands, answer_events, first_of, group_of, sizes_of}
 use Rattle.hpb_device.specs.State.{DeviceState, AtRest, steps_left}
-use Rattle.hpb_device.proofs.Going.{going_fails, going_is_silent, going_moves_none, going_sizes, going_tasks, going_tells, other_code, resting_tasks, few_left}
-use Rattle.trace_replay.specs.declared.form.Form.{Form}
-use Rattle.trace_replay.specs.declared.form.Form.TheVariants.{Block, Answered, Other}
-use Rattle.trace_replay.specs.Form.{form_of, form_by_fault, form_by_kind, moves_one_block}
-use Rattle.trace_replay.specs.Moments.{Standing, Leads, Cuts, CutLineTo, IsServedForm, Refuses}
+use Rattle.hpb_device.proofs.Going.{going_fails, going_is_silent, going_moves_none, going_sizes, going_tasks, going_tells, resting_tasks, few_left}
+use Rattle.trace_replay.specs.Moments.{Standing, Leads, Cuts, CutLineTo}
 use Rattle.trace_replay.specs.Writes.{AppendsFront, HasWrittenUpTo}
+use Rattle.trace_replay.proofs.Codes.{answer_tells}
 use Rattle.trace_replay.proofs.Written.{gathers_more}
 
 -- the lines of more events are gathered
@@ -245,59 +235,15 @@ answers_of start old new bytes out sent p at received =
     ∙ (ap (λ (ts : List Task). answers_to (sizes_of start) true ts bytes) (tracks start old p at)
     ∙ subst (λ (s : Sizes). answers_to s true at.stands.tasks bytes ≡ answer_events sent out) at.sizes (received.answers at.stands.tasks at.stands.keeps))
 
--- what answers bytes that are no UPIU, and NOP OUT, tells no code
-reject_tells_none : (lun tag reason : ℕ) → sense_code (upiu_out (reject_upiu lun tag reason)) ≡ None
-unfolding upiu_out upiu_at kind_of
-reject_tells_none lun tag reason = refl
+-- what the device sends at once tells no unit dead
+answer_alive : (start old new : DeviceState) (bytes out : List ℕ) (sent : Sent) (p : Progress) → Standing start old p → Received old new bytes out sent → sent ≡ UpiuSent → ¬ (sense_code out ≡ Some 0x44)
+answer_alive start old new bytes out sent p at received sends =
+    answer_tells (sizes_of start) (on_after p.events) (tasks_at (sizes_of start) p) bytes out refl refl
+    (answers_of start old new bytes out sent p at received ∙ ap (λ (x : Sent). answer_events x out) sends)
 
-nop_tells_none : (tag : ℕ) → sense_code (upiu_out (blank_upiu NopIn 0 tag)) ≡ None
-unfolding upiu_out upiu_at kind_of
-nop_tells_none tag = refl
-
-rejection_tells_none : (bytes : List ℕ) (reason : ℕ) → sense_code (upiu_out (fault_rejection bytes reason)) ≡ None
-rejection_tells_none [] reason = reject_tells_none 0 0 reason
-rejection_tells_none (a ∷ []) reason = reject_tells_none 0 0 reason
-rejection_tells_none (a ∷ b ∷ []) reason = reject_tells_none 0 0 reason
-rejection_tells_none (a ∷ b ∷ c ∷ []) reason = reject_tells_none 0 0 reason
-rejection_tells_none (a ∷ b ∷ lun ∷ tag ∷ rest) reason = reject_tells_none lun tag reason
-
-same_device : (out bytes : List ℕ) (xs : List Event) → Device out ∷ xs ≡ Device bytes ∷ [] → out ≡ bytes
-same_device out bytes xs is = cc
-
-code_of_reply : (s : Sizes) (on : Bool) (tasks : List Task) (bytes out : List ℕ) (v : UpiuValue) → reply_of s on tasks bytes ≡ Some v → sense_code (upiu_out v) ≡ None → answers_to s on tasks bytes ≡ Device out ∷ [] → sense_code out ≡ None
-code_of_reply s on tasks bytes out v is none answers =
-    let sent : Device (upiu_out v) ∷ effects_of s on tasks bytes ≡ Device out ∷ [] = sym (ap (reply_events (effects_of s on tasks bytes)) is) ∙ answers in
-    ap sense_code (sym (same_device (upiu_out v) out (effects_of s on tasks bytes) sent)) ∙ none
-
-block_or_other : (b : Bool) → (if b then Block else Other) ≡ Answered → ⊥
-block_or_other true is = answered_block is
-  where
-    answered_block : Block ≡ Answered → ⊥
-    answered_block same = cc
-block_or_other false is = answered_other is
-  where
-    answered_other : Other ≡ Answered → ⊥
-    answered_other same = cc
-
-nop_only : (v : UpiuValue) (kind : Kind) → form_by_kind v kind ≡ Answered → kind ≡ NopOut
-nop_only v NopOut is = refl
-nop_only v Command is = absurd (block_or_other (moves_one_block v Command) is)
-nop_only v DataOut is = absurd (block_or_other (moves_one_block v DataOut) is)
-nop_only v kind is = absurd (block_or_other false is)
-
-code_by_fault : (s : Sizes) (on : Bool) (tasks : List Task) (bytes out : List ℕ) (fault : Option WireFault) → wire_fault_of bytes ≡ fault → form_by_fault fault (upiu_at bytes) ≡ Answered → answers_to s on tasks bytes ≡ Device out ∷ [] → sense_code out ≡ None
-code_by_fault s on tasks bytes out (Some fault) is form answers =
-    code_of_reply s on tasks bytes out (fault_rejection bytes (number_of fault)) (reply_to_fault s on tasks bytes fault is) (rejection_tells_none bytes (number_of fault)) answers
-code_by_fault s on tasks bytes out None is form answers =
-    code_of_reply s on tasks bytes out (blank_upiu NopIn 0 (upiu_at bytes).tag) (reply_to_kind s on tasks bytes NopOut is (nop_only (upiu_at bytes) (upiu_at bytes).kind form)) (nop_tells_none (upiu_at bytes).tag) answers
-
-pub answered_code : (s : Sizes) (on : Bool) (tasks : List Task) (bytes out : List ℕ) → form_of bytes ≡ Answered → answers_to s on tasks bytes ≡ Device out ∷ [] → sense_code out ≡ None
-answered_code s on tasks bytes out form answers = code_by_fault s on tasks bytes out (wire_fault_of bytes) refl form answers
-
--- bytes of a form that is served, and what answers them
-still_alive : (e : History) (sent : Sent) (out : List ℕ) → NeverDead e → (sent ≡ UpiuSent → sense_code out ≡ None) → NeverDead (followed_by e (answer_events sent out))
+still_alive : (e : History) (sent : Sent) (out : List ℕ) → NeverDead e → (sent ≡ UpiuSent → ¬ (sense_code out ≡ Some 0x44)) → NeverDead (followed_by e (answer_events sent out))
 still_alive e Nothing out alive code = alive
-still_alive e UpiuSent out alive code = (alive, other_code (sense_code out) (code refl))
+still_alive e UpiuSent out alive code = (alive, code refl)
 
 still_unmoved : (e : History) (sent : Sent) (out : List ℕ) → moves (followed_by e (answer_events sent out)) ≡ moves e
 still_unmoved e Nothing out = refl
@@ -308,9 +254,9 @@ answers_fail_nothing e Nothing out = refl
 answers_fail_nothing e UpiuSent out = refl
 
 pub told_leads : (start old new : DeviceState) (before w : Option (List ℕ)) (gathered gathered_now bytes out : List ℕ) (sent : Sent) (p : Progress) → Standing start old p
-    → Received old new bytes out sent → (sent ≡ UpiuSent → sense_code out ≡ None) → HasWrittenUpTo before w (print p.events) gathered → gathered_now ≡ gathered ++ flat_map line_of (Host bytes ∷ answer_events sent out)
+    → Received old new bytes out sent → HasWrittenUpTo before w (print p.events) gathered → gathered_now ≡ gathered ++ flat_map line_of (Host bytes ∷ answer_events sent out)
     → Leads (LineTo (sizes_of start) (Upiu bytes) p) start new before w gathered_now
-told_leads start old new before w gathered gathered_now bytes out sent p at got code printed is =
+told_leads start old new before w gathered gathered_now bytes out sent p at got printed is =
     let answers = answers_of start old new bytes out sent p at got in
     let events : told (sizes_of start) p bytes ≡ followed_by (p.events ▹ Host bytes) (answer_events sent out) = ap (λ (xs : List Event). followed_by (p.events ▹ Host bytes) xs) answers in
     record {
@@ -323,52 +269,10 @@ told_leads start old new before w gathered gathered_now bytes out sent p at got 
         same = rw got.store at.same;
         faults = rw (events, got.store, answers_fail_nothing (p.events ▹ Host bytes) sent out) at.faults;
         unmoved = rw events (still_unmoved (p.events ▹ Host bytes) sent out ∙ at.unmoved);
-        alive = rw events (still_alive (p.events ▹ Host bytes) sent out at.alive code);
+        alive = rw events (still_alive (p.events ▹ Host bytes) sent out at.alive (answer_alive start old new bytes out sent p at got));
       };
       printed = rw (events, is) (events_gathered before w p.events (Host bytes ∷ answer_events sent out) gathered printed);
     }
-
--- a form that is served
-pub form_served : (start old new : DeviceState) (bytes out : List ℕ) (sent : Sent) (p : Progress) (form : Form) → (form ≡ Other → ⊥) → Standing start old p → Received old new bytes out sent → (form ≡ Block → sent ≡ Nothing)
-    → IsServedForm form (answers_to (sizes_of start) (on_after p.events) (tasks_at (sizes_of start) p) bytes)
-form_served start old new bytes out sent p Block some at got silent = answers_of start old new bytes out sent p at got ∙ ap (λ (x : Sent). answer_events x out) (silent refl)
-form_served start old new bytes out sent p Answered some at got silent = tt
-form_served start old new bytes out sent p Other some at got silent = some refl
-
--- the code of what was sent
-pub code_sent : (start old new : DeviceState) (bytes out : List ℕ) (sent : Sent) (p : Progress) (form : Form) → form_of bytes ≡ form → (form ≡ Other → ⊥) → Standing start old p → Received old new bytes out sent → (form ≡ Block → sent ≡ Nothing)
-    → sent ≡ UpiuSent → sense_code out ≡ None
-code_sent start old new bytes out sent p Block is some at got silent sends = absurd (not_silent (sym sends ∙ silent refl))
-  where
-    not_silent : UpiuSent ≡ Nothing → ⊥
-    not_silent same = cc
-code_sent start old new bytes out sent p Answered is some at got silent sends =
-    answered_code (sizes_of start) (on_after p.events) (tasks_at (sizes_of start) p) bytes out is (answers_of start old new bytes out sent p at got ∙ ap (λ (x : Sent). answer_events x out) sends)
-code_sent start old new bytes out sent p Other is some at got silent sends = absurd (some refl)
-
--- bytes of another form
-pub other_form : (start now : DeviceState) (before w : Option (List ℕ)) (gathered bytes : List ℕ) (p : Progress) → form_of bytes ≡ Other → HasWrittenUpTo before w (print p.events) gathered
-    → Refuses (Upiu bytes) start now now p before w gathered
-other_form start now before w gathered bytes p other printed = record {
-  refused = λ served. subst (λ (f : Form). IsServedForm f (answers_to (sizes_of start) (on_after p.events) (tasks_at (sizes_of start) p) bytes)) other served;
-  store = refl;
-  printed = printed;
-}
-
--- bytes about a block that are answered at once
-pub answered_refuses : (start old new : DeviceState) (before w : Option (List ℕ)) (gathered bytes out : List ℕ) (p : Progress) → form_of bytes ≡ Block → Standing start old p
-    → Received old new bytes out UpiuSent → HasWrittenUpTo before w (print p.events) gathered → Refuses (Upiu bytes) start old new p before w gathered
-answered_refuses start old new before w gathered bytes out p form at got printed = record {
-  refused = λ served.
-      let silent : answers_to (sizes_of start) (on_after p.events) (tasks_at (sizes_of start) p) bytes ≡ [] =
-      subst (λ (f : Form). IsServedForm f (answers_to (sizes_of start) (on_after p.events) (tasks_at (sizes_of start) p) bytes)) form served in
-      no_reply (sym (answers_of start old new bytes out UpiuSent p at got) ∙ silent);
-  store = got.store;
-  printed = printed;
-}
-  where
-    no_reply : {x : Event} {xs : List Event} → x ∷ xs ≡ [] → ⊥
-    no_reply is = cc
 
 -- a step of a device that wasn't at rest
 on_false : {P : Type 0} (b : Bool) → (IsTrue b → ⊥) → OnFalse b P → P
@@ -388,17 +292,9 @@ stepping_of old new r out stands going idle steps fewer shape = record {
 pub stepping_moves_none : (old new : DeviceState) (r : Stepped) (out : List ℕ) → Stepping old new r out → r.moved ≡ None
 stepping_moves_none old new r out step = going_moves_none old new r out step.goes
 
--- what isn't sent
-pub nothing_sent : (sent : Sent) → (sent ≡ UpiuSent → ⊥) → sent ≡ Nothing
-nothing_sent Nothing other = refl
-nothing_sent UpiuSent other = absurd (other refl)
-
--- bytes of a form that is served, whose lines are gathered
-pub served_leads : (start old new : DeviceState) (before w : Option (List ℕ)) (gathered one two bytes out : List ℕ) (sent : Sent) (form : Form) (p : Progress) → form_of bytes ≡ form → (form ≡ Other → ⊥) → ((form ≡ Block) × (sent ≡ UpiuSent) → ⊥)
+-- bytes of the host, whose lines are gathered
+pub received_leads : (start old new : DeviceState) (before w : Option (List ℕ)) (gathered one two bytes out : List ℕ) (sent : Sent) (p : Progress)
     → Standing start old p → Received old new bytes out sent → HasWrittenUpTo before w (print p.events) gathered → one ≡ gathered ++ line_of (Host bytes) → (sent ≡ UpiuSent → two ≡ one ++ line_of (Device out)) → (sent ≡ Nothing → two ≡ one)
-    → IsServedForm (form_of bytes) (answers_to (sizes_of start) (on_after p.events) (tasks_at (sizes_of start) p) bytes) × Leads (LineTo (sizes_of start) (Upiu bytes) p) start new before w two
-served_leads start old new before w gathered one two bytes out sent form p is some free at got printed first answer none =
-    let silent : form ≡ Block → sent ≡ Nothing = λ block. nothing_sent sent (λ sends. free (block, sends)) in (
-      subst (λ (f : Form). IsServedForm f (answers_to (sizes_of start) (on_after p.events) (tasks_at (sizes_of start) p) bytes)) (sym is) (form_served start old new bytes out sent p form some at got silent),
-      told_leads start old new before w gathered two bytes out sent p at got (code_sent start old new bytes out sent p form is some at got silent) printed (told_lines gathered one two bytes out sent first answer none),
-    )
+    → Leads (LineTo (sizes_of start) (Upiu bytes) p) start new before w two
+received_leads start old new before w gathered one two bytes out sent p at got printed first answer none =
+    told_leads start old new before w gathered two bytes out sent p at got printed (told_lines gathered one two bytes out sent first answer none)

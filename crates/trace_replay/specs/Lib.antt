@@ -1,4 +1,3 @@
-pub mod Form
 pub mod Moments
 pub mod Run
 pub mod Showing

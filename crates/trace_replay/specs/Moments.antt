@@ -4,19 +4,13 @@ use Rattle.flat_unit.specs.Causes.{FailuresWithin}
 use Rattle.flat_unit.specs.Print.{print}
 use Rattle.flat_unit.specs.Replays.{Progress, StepsTo, LineTo, enough, tasks_at, without_runs}
 use Rattle.flat_unit.specs.Sizes.{Sizes}
-use Rattle.flat_unit.specs.Sound.{answers_to}
-use Rattle.flat_unit.specs.Queue.{on_after}
 use Rattle.flat_unit.specs.Writes.{moves}
-use Rattle.flat_unit.specs.Trace.{Line, Upiu, Drain, Blank}
+use Rattle.flat_unit.specs.Trace.{Line, Upiu, Steps, Collect, Drain, ResetLine, Blank}
 use Rattle.hpb_device.specs.Advance.{IsSameStore}
 use Rattle.hpb_device.specs.Standing.{DeviceStands, first_of, sizes_of}
 use Rattle.hpb_device.specs.State.{DeviceState}
 use Rattle.trace_replay.specs.declared.replay.Turn.{Turn}
 use Rattle.trace_replay.specs.declared.replay.Turn.TheVariants.{Served, Bad, Unwritten}
-use Rattle.flat_unit.specs.declared.event.Event.{Event}
-use Rattle.trace_replay.specs.declared.form.Form.{Form}
-use Rattle.trace_replay.specs.declared.form.Form.TheVariants.{Block, Answered, Other}
-use Rattle.trace_replay.specs.Form.{form_of}
 use Rattle.trace_replay.specs.Transcript.{NeverDead}
 use Rattle.trace_replay.specs.Writes.{AppendsFront, HasWrittenUpTo}
 
@@ -30,18 +24,14 @@ pub record Standing (start now : DeviceState) (p : Progress) : Type 0 where
   pub unmoved : moves p.events ≡ 0
   pub alive : NeverDead p.events
 
--- bytes of a form that is served, where the replay has come so far: nothing answers those of a block at once
-abbrev pub IsServedForm : Form → (answers : List Event) → Type 0
-IsServedForm Block answers = answers ≡ []
-IsServedForm Answered answers = Unit {0}
-IsServedForm Other answers = ⊥
-
--- a line that is served
-abbrev pub IsServedLine : Sizes → Progress → Line → Type 0
-IsServedLine s p (Upiu bytes) = IsServedForm (form_of bytes) (answers_to s (on_after p.events) (tasks_at s p) bytes)
-IsServedLine s p Drain = Unit {0}
-IsServedLine s p Blank = Unit {0}
-IsServedLine s p _ = ⊥
+-- a line that is served: all but collection and resets
+abbrev pub IsServedLine : Line → Type 0
+IsServedLine (Upiu bytes) = Unit {0}
+IsServedLine (Steps n) = ⊥
+IsServedLine (Collect n) = ⊥
+IsServedLine Drain = Unit {0}
+IsServedLine ResetLine = ⊥
+IsServedLine Blank = Unit {0}
 
 -- what a line may lead to that is cut after one of its calls: a UPIU is cut before the device has it
 abbrev pub CutLineTo : Sizes → Line → Progress → Progress → Type 0
@@ -64,8 +54,8 @@ pub record Cuts (next : Progress → Type 0) (start now : DeviceState) (before w
   pub printed : AppendsFront before written (print moment.events)
 
 -- what a line is that isn't served: nothing is printed for it, and the chip is as it was
-pub record Refuses (line : Line) (start old new : DeviceState) (p : Progress) (before written : Option (List ℕ)) (gathered : List ℕ) : Type 0 where
-  pub refused : ¬ IsServedLine (sizes_of start) p line
+pub record Refuses (line : Line) (old new : DeviceState) (p : Progress) (before written : Option (List ℕ)) (gathered : List ℕ) : Type 0 where
+  pub refused : ¬ IsServedLine line
   pub store : new.store ≡ old.store
   pub printed : HasWrittenUpTo before written (print p.events) gathered
 
@@ -79,8 +69,8 @@ Serves line old new written written_now gathered gathered_now result =
 -- what a line comes to, from wherever it begins
 abbrev pub LineIs : Line → (start old new : DeviceState) (p : Progress) (before written : Option (List ℕ)) (gathered : List ℕ) → Turn → Type 0
 LineIs line start old new p before written gathered Served =
-    IsServedLine (sizes_of start) p line × Leads (LineTo (sizes_of start) line p) start new before written gathered
-LineIs line start old new p before written gathered Bad = Refuses line start old new p before written gathered
+    IsServedLine line × Leads (LineTo (sizes_of start) line p) start new before written gathered
+LineIs line start old new p before written gathered Bad = Refuses line old new p before written gathered
 LineIs line start old new p before written gathered Unwritten = Cuts (CutLineTo (sizes_of start) line p) start new before written
 LineIs line start old new p before written gathered _ = ⊥
 

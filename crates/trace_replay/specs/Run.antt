@@ -1,5 +1,5 @@
 -- What a run of a trace leaves.
-use Rattle.std.specs.Prelude.{◌≡◌, ◌⊎◌, ℕ, ◌+◌, ⊤, List, [], ◌∷◌, ◌++◌, map, length, Option, Some, None, codes, decimal}
+use Rattle.std.specs.Prelude.{◌≡◌, ◌⊎◌, ℕ, ◌+◌, ⊤, List, [], ◌∷◌, ◌++◌, map, length, All, Option, Some, None, codes, decimal}
 use Rattle.std.specs.Io.KnownBytes.{Appends}
 use Rattle.flat_unit.specs.Print.{print}
 use Rattle.flat_unit.specs.Replays.{Progress, begun, LineTo, Replays}
@@ -26,9 +26,9 @@ abbrev pub TakesLines : Option (List ℕ) → List (List ℕ) → Option (List �
 TakesLines left [] now = now ≡ left
 TakesLines left (text ∷ texts) now = (mid : Option (List ℕ)) × WhereTold (TakesLine text) left mid × TakesLines mid texts now
 
--- a text that is no line of a trace, or one that isn't served where the replay has come so far
-abbrev pub IsRefusedText : Sizes → Progress → List ℕ → Type 0
-IsRefusedText s p text = (trace_line text ≡ None) ⊎ ((line : Line) × (trace_line text ≡ Some line) × ¬ IsServedLine s p line)
+-- a text that is no line of a trace, or one that isn't served
+abbrev pub IsRefusedText : List ℕ → Type 0
+IsRefusedText text = (trace_line text ≡ None) ⊎ ((line : Line) × (trace_line text ≡ Some line) × ¬ IsServedLine line)
 
 -- a text that is told begins with a line that is too long
 abbrev pub IsLong : Option (List ℕ) → Type 0
@@ -41,8 +41,8 @@ HasMore None = ⊤
 HasMore (Some text) = ¬ (text ≡ [])
 
 -- the next line is too long, or refused
-abbrev pub IsBadNext : Sizes → Option (List ℕ) → Progress → Type 0
-IsBadNext s left p = IsLong left ⊎ ((text : List ℕ) × (mid : Option (List ℕ)) × WhereTold (TakesLine text) left mid × IsRefusedText s p text)
+abbrev pub IsBadNext : Option (List ℕ) → Type 0
+IsBadNext left = IsLong left ⊎ ((text : List ℕ) × (mid : Option (List ℕ)) × WhereTold (TakesLine text) left mid × IsRefusedText text)
 
 -- the sink failed before the next line was taken, or after one of the calls that serve it
 abbrev pub IsCutNext : Sizes → Option (List ℕ) → Progress → Progress → Type 0
@@ -52,24 +52,19 @@ IsCutNext s left p now = (now ≡ p)
 -- what one line comes to, where the replay has come so far
 abbrev pub TurnAt : (start : DeviceState) (before : Option (List ℕ)) (p : Progress) (old new : DeviceState) (left left_now written : Option (List ℕ)) (gathered : List ℕ) → Turn → Type 0
 TurnAt start before p old new left left_now written gathered Served =
-    (text : List ℕ) × (line : Line) × WhereTold (TakesLine text) left left_now × (trace_line text ≡ Some line) × IsServedLine (sizes_of start) p line × Leads (LineTo (sizes_of start) line p) start new before written gathered
+    (text : List ℕ) × (line : Line) × WhereTold (TakesLine text) left left_now × (trace_line text ≡ Some line) × IsServedLine line × Leads (LineTo (sizes_of start) line p) start new before written gathered
 TurnAt start before p old new left left_now written gathered Ended =
     WhereTold EndsAt left left_now × (new.store ≡ old.store) × HasWrittenUpTo before written (print p.events) gathered
 TurnAt start before p old new left left_now written gathered Unread =
     (new.store ≡ old.store) × HasWrittenUpTo before written (print p.events) gathered
 TurnAt start before p old new left left_now written gathered Bad =
-    IsBadNext (sizes_of start) left p × (new.store ≡ old.store) × HasWrittenUpTo before written (print p.events) gathered
+    IsBadNext left × (new.store ≡ old.store) × HasWrittenUpTo before written (print p.events) gathered
 TurnAt start before p old new left left_now written gathered Unwritten = Cuts (IsCutNext (sizes_of start) left p) start new before written
 
 abbrev pub TurnIs : (old new : DeviceState) (left left_now written written_now : Option (List ℕ)) (gathered gathered_now : List ℕ) → Turn → Type 0
 TurnIs old new left left_now written written_now gathered gathered_now turn =
     (start : DeviceState) (before : Option (List ℕ)) (p : Progress) → Standing start old p → HasWrittenUpTo before written (print p.events) gathered
     → TurnAt start before p old new left left_now written_now gathered_now turn
-
--- each of these lines is served, and leads on
-abbrev pub ServesLines : Sizes → List Line → Progress → Progress → Type 0
-ServesLines s [] p now = now ≡ p
-ServesLines s (line ∷ lines) p now = (mid : Progress) × IsServedLine s p line × LineTo s line p mid × ServesLines s lines mid now
 
 -- so many lines were taken and served, and the events that they led to have these facts
 pub record Ran (s : Sizes) (left now : Option (List ℕ)) (count : ℕ) (facts : Progress → Type 0) : Type 0 where
@@ -80,7 +75,7 @@ pub record Ran (s : Sizes) (left now : Option (List ℕ)) (count : ℕ) (facts :
   pub parsed : map trace_line texts ≡ map (λ (line : Line). Some line) lines
   pub counted : length texts ≡ count
   pub replays : Replays s lines begun moment
-  pub serves : ServesLines s lines begun moment
+  pub serves : All IsServedLine lines
   pub shows : facts moment
 
 -- the last words of a run
@@ -98,7 +93,7 @@ abbrev pub RunIs : Sizes → (good : Progress → Type 0) → (left left_now wri
 RunIs s good left left_now written written_now source_rose sink_rose limit Done =
     (mid : Option (List ℕ)) × (n : ℕ) × Ran s left mid n (λ p. good p × Appends written written_now (print p.events)) × WhereTold EndsAt mid left_now
 RunIs s good left left_now written written_now source_rose sink_rose limit (BadLine number) =
-    (mid : Option (List ℕ)) × (n : ℕ) × Ran s left mid n (λ p. good p × IsBadNext s mid p × Appends written written_now (print p.events ++ bad_line_text number)) × (number ≡ n + 1)
+    (mid : Option (List ℕ)) × (n : ℕ) × Ran s left mid n (λ p. good p × IsBadNext mid × Appends written written_now (print p.events ++ bad_line_text number)) × (number ≡ n + 1)
 RunIs s good left left_now written written_now source_rose sink_rose limit ReadFault =
     (mid : Option (List ℕ)) × (n : ℕ) × Ran s left mid n (λ p. good p × Appends written written_now (print p.events)) × source_rose
 RunIs s good left left_now written written_now source_rose sink_rose limit LongTrace =

@@ -1,7 +1,6 @@
 //! The program: it replays a trace of UPIUs against a device, and prints the UPIUs of both sides.
 #![tactic(auto)]
 
-mod form;
 mod output;
 mod program;
 mod replay;
@@ -15,6 +14,8 @@ pub use words::chip_of;
 
 #[cfg(test)]
 mod layout_tests;
+#[cfg(test)]
+mod queue_tests;
 #[cfg(test)]
 mod tests;
 #[cfg(test)]

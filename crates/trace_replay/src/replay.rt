@@ -1,4 +1,4 @@
-ghost use Rattle.std.specs.Prelude.{IsTrue, ◌↔◌, ◌≡◌, ◌≤◌, ◌+◌, ◌++◌, length, flat_map, [], None, IfOk, OnOk};
+ghost use Rattle.std.specs.Prelude.{◌≡◌, ◌≤◌, ◌+◌, ◌++◌, length, flat_map, [], None, IfOk, OnOk};
 ghost use Rattle.flat_unit.specs.Print.{line_of};
 ghost use Rattle.flat_unit.specs.Replays.{events_of};
 ghost use Rattle.flat_unit.specs.Trace.{Upiu, Drain};
@@ -11,7 +11,6 @@ ghost use Rattle.trace_replay.specs.Writes.{KeepsText};
 ghost use Rattle.hpb_outside.specs.Faults.{HasCause, Rose};
 ghost use Rattle.trace_replay.specs.declared.output.TheConstants.{OUTPUT_BYTES, LINE_ROOM};
 
-use crate::form::{Form, form_of};
 use crate::output::Output;
 use flash_pages::Flash;
 use flat_unit::Event;
@@ -125,35 +124,15 @@ fn receive_line<K: Sink, F: Flash>(
     ensures unwritten { result ≡ Turn.Unwritten → Rose (K.faults sink.old) (K.faults sink.new) }
     ensures read { ¬ (result ≡ Turn.Unread) }
 {
-    let form = form_of(bytes);
-    if let Form::Other = form {
-        return Turn::Bad;
-    }
     if make_room(output, sink).is_err() {
         return Turn::Unwritten;
     }
     let sent = device.receive(bytes, upiu);
-    if is_refused(form, sent) {
-        return Turn::Bad;
-    }
     output.push_upiu(b'>', bytes);
     if let Sent::Upiu = sent {
         output.push_upiu(b'<', upiu.bytes());
     }
     Turn::Served
-}
-
-/// Whether what is about a block was answered at once.
-fn is_refused(form: Form, sent: Sent) -> bool
-    ensures { IsTrue result ↔ ((form ≡ Form.Block) × (sent ≡ Sent.Upiu)) }
-{
-    match form {
-        Form::Block => match sent {
-            Sent::Upiu => true,
-            Sent::Nothing => false,
-        },
-        Form::Answered | Form::Other => false,
-    }
 }
 
 /// Serves a line, whose UPIU stands at the front of the room.

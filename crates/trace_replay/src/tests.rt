@@ -26,7 +26,7 @@ const UNWRITTEN: [(&str, &str); 2] = [
 ];
 
 /// A block is written.
-const WRITTEN: [(&str, &str); 4] = [
+pub const WRITTEN: [(&str, &str); 4] = [
     ("U 01200002 z z 00001000 2a000000 z 01000000 z", ""),
     ("D", "< 31000002 z z z 00001000 z z z"),
     ("U 02000002 z 00001000 z 00001000 z z z block", ""),
@@ -84,15 +84,15 @@ const UNREAD: [(&str, &str); 2] = [
 
 /// A trace, what it prints, and where each of its lines and of their outputs ends.
 #[derive(Drop)]
-struct Script {
-    trace: Vec<u8>,
-    printed: Vec<u8>,
+pub struct Script {
+    pub trace: Vec<u8>,
+    pub printed: Vec<u8>,
     trace_ends: Vec<u64>,
     printed_ends: Vec<usize>,
 }
 
 impl Script {
-    fn new(alloc: Global) -> Script {
+    pub fn new(alloc: Global) -> Script {
         Script {
             trace: Vec::new(alloc),
             printed: Vec::new(alloc),
@@ -102,7 +102,7 @@ impl Script {
     }
 
     /// Adds lines, each with what is printed for it. That of a UPIU begins with the UPIU.
-    fn add(&mut self, lines: &[(&str, &str)]) -> Result<(), Fail> {
+    pub fn add(&mut self, lines: &[(&str, &str)]) -> Result<(), Fail> {
         for (line, answers) in lines.iter().copied() {
             push_words(&mut self.trace, line)?;
             self.trace.push(b'\n')?;
@@ -143,7 +143,7 @@ fn one_block(alloc: Global) -> Result<Script, Fail> {
 
 /// What a run meets: where reads end early, and which calls fail, by their numbers from 1.
 #[derive(Drop)]
-struct Outside {
+pub struct Outside {
     cuts: Vec<u64>,
     reads: Vec<u64>,
     writes: Vec<u64>,
@@ -153,7 +153,7 @@ struct Outside {
 
 impl Outside {
     /// Nothing fails, and there is room for all.
-    fn faultless(alloc: Global) -> Outside {
+    pub fn faultless(alloc: Global) -> Outside {
         Outside {
             cuts: Vec::new(alloc),
             reads: Vec::new(alloc),
@@ -199,7 +199,7 @@ fn replay(alloc: Global, trace: &[u8], outside: Outside) -> Result<Ran, Fail> {
 }
 
 /// Replays a script, and tells whether all of it was printed.
-fn is_printed(alloc: Global, script: &Script, outside: Outside) -> Result<bool, Fail> {
+pub fn is_printed(alloc: Global, script: &Script, outside: Outside) -> Result<bool, Fail> {
     let ran = replay(alloc, &script.trace, outside)?;
     Ok(ran.status == Status::Done && ran.printed.as_slice() == script.printed.as_slice())
 }
@@ -397,33 +397,7 @@ fn is_refused(alloc: Global, words: &str) -> Result<bool, Fail> {
 
 #[test]
 fn other_lines_are_refused(rt: HostRuntime) -> Result<(), Fail> {
-    for line in [
-        "U 0",
-        "U 0g",
-        "S 1",
-        "C 1",
-        "R",
-        "X",
-        "d",
-        "D\r",
-        // Two blocks, and none.
-        "U 01400001 z z 00002000 28000000 00050000 02000000 z",
-        "U 01400001 z z 00000000 28000000 00050000 00000000 z",
-        // A block past the end.
-        "U 01400001 z z 00001000 28000000 00140000 01000000 z",
-        "U 01200002 z z 00001000 2a000000 00140000 01000000 z",
-        // Too few bytes are expected, and too many.
-        "U 01400001 z z 00000fff 28000000 00050000 01000000 z",
-        "U 01400001 z z 00002000 28000000 00050000 01000000 z",
-        // Another unit.
-        "U 01400101 z z 00001000 28000000 00050000 01000000 z",
-        // TEST UNIT READY.
-        "U 01000001 z z z z z z z",
-        // Data that no task waits for.
-        "U 02000002 z 00001000 z 00001000 z z z block",
-        // A QUERY REQUEST.
-        "U 16000001 z z z z z z z",
-    ] {
+    for line in ["U 0", "U 0g", "S 1", "C 1", "R", "X", "d", "D\r"] {
         assert!(rt; is_refused(rt.alloc(), line)?, "{line}");
     }
     Ok(())
@@ -471,37 +445,6 @@ fn what_changes_nothing_is_answered(rt: HostRuntime) -> Result<(), Fail> {
     script.add(&WRITTEN[2..])?;
     script.add(&READ_BACK)?;
     assert!(rt; is_printed(rt.alloc(), &script, Outside::faultless(rt.alloc()))?);
-    Ok(())
-}
-
-/// Whether a line is refused after the lines of a script, which are printed.
-fn is_refused_after(alloc: Global, script: &Script, words: &str) -> Result<bool, Fail> {
-    let mut trace = script.trace.as_slice().to_vec(alloc)?;
-    push_words(&mut trace, words)?;
-    let ran = replay(alloc, &trace, Outside::faultless(alloc))?;
-    let Some(text) = ran.printed.strip_prefix(script.printed.as_slice()) else {
-        return Ok(false);
-    };
-    Ok(ran.status == Status::BadLine(3) && text == b"E line 3\n".as_slice())
-}
-
-#[test]
-fn other_data_are_refused(rt: HostRuntime) -> Result<(), Fail> {
-    let mut script = Script::new(rt.alloc());
-    let [command, asked, ..] = WRITTEN;
-    script.add(&[command, asked])?;
-    for line in [
-        // Another tag, another unit, another offset, another count, and too few.
-        "U 02000003 z 00001000 z 00001000 z z z block",
-        "U 02000102 z 00001000 z 00001000 z z z block",
-        "U 02000002 z 00001000 00000001 00001000 z z z block",
-        "U 02000002 z 00001000 z 00000fff z z z block",
-        "U 02000002 z 00000004 z 00000004 z z z 00000000",
-        // A second command.
-        "U 01400003 z z 00001000 28000000 z 01000000 z",
-    ] {
-        assert!(rt; is_refused_after(rt.alloc(), &script, line)?, "{line}");
-    }
     Ok(())
 }
 

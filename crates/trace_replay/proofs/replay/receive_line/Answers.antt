@@ -2,34 +2,17 @@ use Rattle.std.proofs.Common.{◌≡◌, ◌+◌, ◌≤◌, length, refl, rules
 use Rattle.flat_unit.specs.Print.{print, line_of}
 use Rattle.flat_unit.specs.declared.event.Event.TheVariants.{Host}
 use Rattle.hpb_device.specs.declared.device.Sent.TheVariants.{Nothing, Upiu as UpiuSent}
-use Rattle.trace_replay.specs.declared.form.Form.TheVariants.{Block}
-use Rattle.std.proofs.lemmas.Bool.{false≢true}
 use Rattle.trace_text.proofs.Lengths.{length-Host}
 use Rattle.trace_replay.proofs.Written.{cut_of, whole_of}
-use Rattle.trace_replay.proofs.Standing.{Received, answered_refuses, other_form, served_leads}
+use Rattle.trace_replay.proofs.Standing.{Received, received_leads}
 use Rattle.trace_replay.proofs.replay.receive_line.Goals as goal
 
 upiu_not_nothing : UpiuSent ≡ Nothing → ⊥
 upiu_not_nothing same = cc
 
-pub returns-in-Other-clause-turn : goal.returns-in-Other-clause-turn
-returns-in-Other-clause-turn g c start before p at printed = other_form start c.args.device.now before _ _ c.args.bytes.now p (search rules) printed
-
 pub returns-then-is_err-clause-turn : goal.returns-then-is_err-clause-turn
 returns-then-is_err-clause-turn g c start before p at printed =
     record { moment = p; reached = refl; standing = at; printed = cut_of c.make_room.result _ _ (search rules) (c.make_room.ensures.text before (print p.events) printed) }
-
-pub returns-then-is_refused-clause-turn : goal.returns-then-is_refused-clause-turn
-returns-then-is_refused-clause-turn g c start before p at printed =
-    let refused = c.is_refused.ensures.0 c.if-is_refused.true in
-    let got : Received c.args.device.now c.receive-sent.new.self c.args.bytes.now c.receive-sent.new.out c.receive-sent.result = record {
-      stands = c.receive-sent.ensures.stands;
-      answers = c.receive-sent.ensures.answers;
-      store = c.receive-sent.ensures.store;
-      shape = c.receive-sent.ensures.shape;
-    } in
-    answered_refuses start c.args.device.now c.receive-sent.new.self before _ _ c.args.bytes.now c.receive-sent.new.out p (sym c.form_of-form.ensures ∙ refused.0) at (rw refused.1 at got)
-    (whole_of c.make_room.result _ _ (search rules) (c.make_room.ensures.text before (print p.events) printed))
 
 pub push_upiu-requires-in-Upiu : goal.push_upiu-requires-in-Upiu
 push_upiu-requires-in-Upiu g c =
@@ -46,20 +29,22 @@ returns-in-Upiu-clause-turn g c start before p at printed =
       store = c.receive-sent.ensures.store;
       shape = c.receive-sent.ensures.shape;
     } in
-    let free : (c.form_of-form.result ≡ Block) × (c.receive-sent.result ≡ UpiuSent) → ⊥ = λ both. false≢true (sym c.if-is_refused.false ∙ c.is_refused.ensures.1 both) in
-    let whole = whole_of c.make_room.result _ _ (search rules) (c.make_room.ensures.text before (print p.events) printed) in
-    served_leads start c.args.device.now c.receive-sent.new.self before _ _ c.push_upiu.new.self c.push_upiu-in-Upiu.new.self c.args.bytes.now c.receive-sent.new.out c.receive-sent.result c.form_of-form.result p
-    (sym c.form_of-form.ensures) c.in_default.not-Other free at got whole c.push_upiu.ensures (λ sends. search rules) (λ none. absurd (upiu_not_nothing (sym c.in-Upiu.is ∙ none)))
+    let whole = whole_of c.make_room.result _ _ (search rules) (c.make_room.ensures.text before (print p.events) printed) in (
+      tt,
+      received_leads start c.args.device.now c.receive-sent.new.self before _ _ c.push_upiu.new.self c.push_upiu-in-Upiu.new.self c.args.bytes.now c.receive-sent.new.out c.receive-sent.result p
+          at got whole c.push_upiu.ensures (λ sends. search rules) (λ none. absurd (upiu_not_nothing (sym c.in-Upiu.is ∙ none))),
+    )
 
-pub returns-in_default-sent-clause-turn : goal.returns-in_default-sent-clause-turn
-returns-in_default-sent-clause-turn g c start before p at printed =
+pub returns-in_default-clause-turn : goal.returns-in_default-clause-turn
+returns-in_default-clause-turn g c start before p at printed =
     let got : Received c.args.device.now c.receive-sent.new.self c.args.bytes.now c.receive-sent.new.out c.receive-sent.result = record {
       stands = c.receive-sent.ensures.stands;
       answers = c.receive-sent.ensures.answers;
       store = c.receive-sent.ensures.store;
       shape = c.receive-sent.ensures.shape;
     } in
-    let free : (c.form_of-form.result ≡ Block) × (c.receive-sent.result ≡ UpiuSent) → ⊥ = λ both. false≢true (sym c.if-is_refused.false ∙ c.is_refused.ensures.1 both) in
-    let whole = whole_of c.make_room.result _ _ (search rules) (c.make_room.ensures.text before (print p.events) printed) in
-    served_leads start c.args.device.now c.receive-sent.new.self before _ _ c.push_upiu.new.self c.push_upiu.new.self c.args.bytes.now c.receive-sent.new.out c.receive-sent.result c.form_of-form.result p
-    (sym c.form_of-form.ensures) c.in_default.not-Other free at got whole c.push_upiu.ensures (λ sends. absurd (c.in_default-sent.not-Upiu sends)) (λ none. refl)
+    let whole = whole_of c.make_room.result _ _ (search rules) (c.make_room.ensures.text before (print p.events) printed) in (
+      tt,
+      received_leads start c.args.device.now c.receive-sent.new.self before _ _ c.push_upiu.new.self c.push_upiu.new.self c.args.bytes.now c.receive-sent.new.out c.receive-sent.result p
+          at got whole c.push_upiu.ensures (λ sends. absurd (c.in_default.not-Upiu sends)) (λ none. refl),
+    )

@@ -1,5 +1,6 @@
 pub mod Codes
 pub mod Gathered
+pub mod Left
 pub mod Numbers
 pub mod Options
 pub mod Rows

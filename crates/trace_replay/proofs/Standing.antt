@@ -1,7 +1,8 @@
 -- Each call of the device leads from where it stands to where it stands then.
-use Rattle.std.proofs.Common.{◌≡◌, ℕ, suc, ◌+◌, ◌<◌, ◌≤◌, Bool, true, false, List, [], ◌∷◌, ◌++◌, Option, Some, None, refl, sym, ◌∙◌, ap, subst, arith, inr}
-use Rattle.std.specs.Prelude.{flat_map, IsTrue, if◌then◌else◌}
+use Rattle.std.proofs.Common.{◌≡◌, ℕ, suc, ◌+◌, ◌-◌, ◌<◌, ◌≤◌, Bool, true, false, List, [], ◌∷◌, ◌++◌, Option, Some, None, refl, sym, ◌∙◌, ap, subst, arith, inr}
+use Rattle.std.specs.Prelude.{flat_map, map, IsTrue, if◌then◌else◌}
 use Rattle.std.specs.Bool.{OnFalse}
+use Rattle.std.specs.List.{AllByRecursion}
 use Rattle.std.proofs.lemmas.List.{append_assoc, append-nil}
 use Rattle.flat_unit.specs.declared.event.Event.{Event}
 use Rattle.flat_unit.specs.declared.event.Event.TheVariants.{Host, Device}
@@ -9,7 +10,7 @@ use Rattle.flat_unit.specs.Causes.{failures, sense_code}
 use Rattle.flat_unit.specs.History.{History, ◌▹◌, followed_by}
 use Rattle.flat_unit.specs.Print.{print, line_of}
 use Rattle.flat_unit.specs.Queue.{at_rest, on_after, tasks_after}
-use Rattle.flat_unit.specs.Replays.{Progress, Group, StepTo, StepsTo, LineTo, events_of, stepped, enough, has_asked, is_due, tasks_at, told, received, with_run, without_runs}
+use Rattle.flat_unit.specs.Replays.{OpenRun, Progress, Group, StepTo, StepsTo, LineTo, events_of, stepped, enough, has_asked, is_due, lacks_less, tasks_at, told, received, with_run, without_runs}
 use Rattle.flat_unit.specs.Sizes.{Sizes}
 use Rattle.flat_unit.specs.Sound.{answers_to}
 use Rattle.flat_unit.specs.Stands.{First}
@@ -18,8 +19,8 @@ use Rattle.flat_unit.specs.Writes.{moves}
 use Rattle.flash_pages.specs.declared.chip.ChipOp.{ChipOp}
 use Rattle.flash_pages.specs.Place.{Place}
 use Rattle.trace_replay.specs.Transcript.{NeverDead}
-use Rattle.flat_unit.specs.Trace.{Upiu, Drain, Blank}
-use Rattle.flat_unit.proofs.History.{print-followed_by, failures-followed_by, due_at_once}
+use Rattle.flat_unit.specs.Trace.{Upiu, Steps, Drain, Blank}
+use Rattle.flat_unit.proofs.History.{print-followed_by, failures-followed_by, due_at_once, idle_step}
 use Rattle.hpb_device.specs.declared.device.Sent.{Sent}
 use Rattle.hpb_device.specs.declared.device.Sent.TheVariants.{Nothing, Upiu as UpiuSent}
 use Rattle.hpb_device.specs.declared.device.Stepped.{Stepped}
@@ -29,10 +30,11 @@ use Rattle.hpb_device.specs.Calls.{GoesOn}
 use Rattle.hpb_device.specs.Keeps.{KeepsTasks}
 use Rattle.hpb_device.specs.Standing.{DeviceStands, answer_events, first_of, group_of, sizes_of}
 use Rattle.hpb_device.specs.State.{DeviceState, AtRest, steps_left}
-use Rattle.hpb_device.proofs.Going.{going_fails, going_is_silent, going_moves_none, going_sizes, going_tasks, going_tells, resting_tasks, few_left}
-use Rattle.trace_replay.specs.Moments.{Standing, Leads, Cuts, CutLineTo}
+use Rattle.hpb_device.proofs.Going.{at_rest_of, going_fails, going_is_silent, going_moves_none, going_sizes, going_tasks, going_tells, resting_tasks, few_left}
+use Rattle.trace_replay.specs.Moments.{Standing, LacksEnough, Leads, Cuts, CutLineTo}
 use Rattle.trace_replay.specs.Writes.{AppendsFront, HasWrittenUpTo}
 use Rattle.trace_replay.proofs.Codes.{answer_tells}
+use Rattle.trace_replay.proofs.Left.{some_left}
 use Rattle.trace_replay.proofs.Written.{gathers_more}
 
 -- the lines of more events are gathered
@@ -119,6 +121,11 @@ events_quiet start old new m r out at step =
     quiet_parts m.events r.failed (group_of r out).moved (group_of r out).sent (rw (going_moves_none old new r out step.goes) refl)
     (λ bytes is. code_of r.sent out bytes (going_tells old new r out step.goes) is) at.alive
 
+-- what follows from what is said of each run
+all_weaker : (P Q : OpenRun → Type 0) (runs : List OpenRun) → ((run : OpenRun) → P run → Q run) → AllByRecursion P runs → AllByRecursion Q runs
+all_weaker P Q [] leads all = tt
+all_weaker P Q (run ∷ runs) leads all = (leads run all.0, all_weaker P Q runs leads all.1)
+
 same_since : (first old new : StoreState) → IsSameStore first old → IsSameStore old new → IsSameStore first new
 same_since first old new before now = record { geometry = now.geometry ∙ before.geometry; luns = now.luns ∙ before.luns; units = now.units ∙ before.units }
 
@@ -131,6 +138,7 @@ step_standing start old new m r out at step = record {
   faults = omega (arith, at.faults, going_fails old new r out step.goes, failures-followed_by m.events (events_of (group_of r out)));
   unmoved = (events_quiet start old new m r out at step).0 ∙ at.unmoved;
   alive = (events_quiet start old new m r out at step).1;
+  lacking = all_weaker (LacksEnough old) (LacksEnough new) m.runs (λ run enough going. omega (arith, enough step.going, step.fewer)) at.lacking;
 }
 
 -- the steps that are left are at most those that the tasks need
@@ -139,6 +147,19 @@ few_steps start now p at =
     let some : 1 ≤ now.store.geometry.pages = rw (ap (λ (s : Sizes). s.erase_block) at.sizes) at.some_page in
     let few = few_left now at.stands.tasks some at.stands.keeps in
     rw (tracks start now p at) (subst (λ (s : Sizes). steps_left now ≤ enough s at.stands.tasks) at.sizes few)
+
+-- a run that begins lacks as many calls as end all tasks
+run_standing : (start now : DeviceState) (p : Progress) → Standing start now p → Standing start now (with_run (sizes_of start) p)
+run_standing start now p at = record {
+  some_page = at.some_page;
+  stands = at.stands;
+  sizes = at.sizes;
+  same = at.same;
+  faults = at.faults;
+  unmoved = at.unmoved;
+  alive = at.alive;
+  lacking = (λ going. few_steps start now p at, at.lacking);
+}
 
 -- so many steps of a drain were made
 pub record Draining (start now : DeviceState) (before written : Option (List ℕ)) (gathered : List ℕ) (p : Progress) : Type 0 where
@@ -155,7 +176,7 @@ draining_begins start now before w gathered p at printed = record {
   moment = without_runs p;
   steps = refl;
   few = omega (arith, few_steps start now p at);
-  standing = record { some_page = at.some_page; stands = at.stands; sizes = at.sizes; same = at.same; faults = at.faults; unmoved = at.unmoved; alive = at.alive };
+  standing = record { some_page = at.some_page; stands = at.stands; sizes = at.sizes; same = at.same; faults = at.faults; unmoved = at.unmoved; alive = at.alive; lacking = tt };
   printed = printed;
 }
 
@@ -213,9 +234,119 @@ pub blank_leads : (start now : DeviceState) (before w : Option (List ℕ)) (gath
 blank_leads start now before w gathered p at printed = record {
   moment = with_run (sizes_of start) p;
   reached = refl;
-  standing = record { some_page = at.some_page; stands = at.stands; sizes = at.sizes; same = at.same; faults = at.faults; unmoved = at.unmoved; alive = at.alive };
+  standing = run_standing start now p at;
   printed = printed;
 }
+
+-- so many steps of a line were made
+pub record Made (start now : DeviceState) (before written : Option (List ℕ)) (gathered : List ℕ) (p : Progress) (count : ℕ) : Type 0 where
+  pub moment : Progress
+  pub steps : StepsTo (sizes_of start) count (with_run (sizes_of start) p) moment
+  pub lacked : AllByRecursion (λ (run : OpenRun). ¬ AtRest now → count + steps_left now ≤ run.lacks) moment.runs
+  pub standing : Standing start now moment
+  pub printed : HasWrittenUpTo before written (print moment.events) gathered
+
+pub made_begins : (start now : DeviceState) (before w : Option (List ℕ)) (gathered : List ℕ) (p : Progress) → Standing start now p → HasWrittenUpTo before w (print p.events) gathered → Made start now before w gathered p 0
+made_begins start now before w gathered p at printed = record {
+  moment = with_run (sizes_of start) p;
+  steps = refl;
+  lacked = all_weaker (LacksEnough now) (λ (run : OpenRun). ¬ AtRest now → 0 + steps_left now ≤ run.lacks) (with_run (sizes_of start) p).runs (λ run enough going. omega (arith, enough going)) (run_standing start now p at).lacking;
+  standing = run_standing start now p at;
+  printed = printed;
+}
+
+-- what was gathered is written, or stays
+pub made_written : (start now : DeviceState) (before w written : Option (List ℕ)) (gathered gathered_now : List ℕ) (p : Progress) (count : ℕ) → (so_far : Made start now before w gathered p count) → HasWrittenUpTo before written (print so_far.moment.events) gathered_now
+    → Made start now before written gathered_now p count
+made_written start now before w written gathered gathered_now p count so_far printed =
+    record { moment = so_far.moment; steps = so_far.steps; lacked = so_far.lacked; standing = so_far.standing; printed = printed }
+
+one_more : (start now : DeviceState) (before w : Option (List ℕ)) (gathered : List ℕ) (p next_moment : Progress) (count next : ℕ) → next ≡ suc count → (so_far : Made start now before w gathered p count) → StepTo (sizes_of start) so_far.moment next_moment
+    → StepsTo (sizes_of start) next (with_run (sizes_of start) p) next_moment
+one_more start now before w gathered p next_moment count next is so_far leads =
+    subst (λ (n : ℕ). StepsTo (sizes_of start) n (with_run (sizes_of start) p) next_moment) (sym is) (so_far.moment, so_far.steps, leads)
+
+-- one more step, whose lines are gathered
+pub made_goes_on : (start old new : DeviceState) (before w : Option (List ℕ)) (gathered gathered_now : List ℕ) (p : Progress) (r : Stepped) (out : List ℕ) (count next : ℕ) → next ≡ suc count
+    → Stepping old new r out → gathered_now ≡ gathered ++ flat_map line_of (events_of (group_of r out)) → Made start old before w gathered p count → Made start new before w gathered_now p next
+made_goes_on start old new before w gathered gathered_now p r out count next counted step is so_far = record {
+  moment = after_step start so_far.moment r out;
+  steps = one_more start old before w gathered p (after_step start so_far.moment r out) count next counted so_far (step_leads start old new so_far.moment r out so_far.standing step);
+  lacked = all_weaker (λ (run : OpenRun). ¬ AtRest old → count + steps_left old ≤ run.lacks) (λ (run : OpenRun). ¬ AtRest new → next + steps_left new ≤ run.lacks) so_far.moment.runs
+      (λ run enough going. omega (arith, enough step.going, step.fewer, counted)) so_far.lacked;
+  standing = step_standing start old new so_far.moment r out so_far.standing step;
+  printed = rw is (events_gathered before w so_far.moment.events (events_of (group_of r out)) gathered so_far.printed);
+}
+
+-- a step where nothing is to be done
+abbrev no_group : Group
+no_group = record { failed = None; moved = None; sent = None }
+
+abbrev after_rest : DeviceState → Progress → Progress
+after_rest start m = stepped (sizes_of start) m no_group
+
+rest_leads : (start now : DeviceState) (m : Progress) → Standing start now m → AtRest now → StepTo (sizes_of start) m (after_rest start m)
+rest_leads start now m at rests =
+    idle_step (sizes_of start) m no_group (ap at_rest (tracks start now m at) ∙ resting_tasks now at.stands.tasks at.stands.keeps rests) refl refl
+
+pub made_rests : (start now : DeviceState) (before w : Option (List ℕ)) (gathered : List ℕ) (p : Progress) (count next : ℕ) → next ≡ suc count
+    → AtRest now → Made start now before w gathered p count → Made start now before w gathered p next
+made_rests start now before w gathered p count next counted rests so_far = record {
+  moment = after_rest start so_far.moment;
+  steps = one_more start now before w gathered p (after_rest start so_far.moment) count next counted so_far (rest_leads start now so_far.moment so_far.standing rests);
+  lacked = all_weaker (λ (run : OpenRun). ¬ AtRest now → count + steps_left now ≤ run.lacks) (λ (run : OpenRun). ¬ AtRest now → next + steps_left now ≤ run.lacks) so_far.moment.runs
+      (λ run enough going. absurd (going rests)) so_far.lacked;
+  standing = record {
+    some_page = so_far.standing.some_page;
+    stands = so_far.standing.stands;
+    sizes = so_far.standing.sizes;
+    same = so_far.standing.same;
+    faults = so_far.standing.faults;
+    unmoved = so_far.standing.unmoved;
+    alive = so_far.standing.alive;
+    lacking = so_far.standing.lacking;
+  };
+  printed = so_far.printed;
+}
+
+-- the sink failed between two steps
+pub made_is_cut : (start now : DeviceState) (before w written : Option (List ℕ)) (gathered : List ℕ) (p : Progress) (count limit : ℕ) → count ≤ limit → (so_far : Made start now before w gathered p count) → AppendsFront before written (print so_far.moment.events)
+    → Cuts (CutLineTo (sizes_of start) (Steps limit) p) start now before written
+made_is_cut start now before w written gathered p count limit below so_far cut =
+    record { moment = so_far.moment; reached = (count, below, so_far.steps); standing = so_far.standing; printed = cut }
+
+lacks_down : (now : DeviceState) (count : ℕ) (runs : List OpenRun) → AllByRecursion (λ (run : OpenRun). ¬ AtRest now → count + steps_left now ≤ run.lacks) runs
+    → AllByRecursion (LacksEnough now) (map (λ (run : OpenRun). record run { lacks = run.lacks - count }) runs)
+lacks_down now count [] all = tt
+lacks_down now count (run ∷ runs) all = (λ going. omega (arith, all.0 going), lacks_down now count runs all.1)
+
+pub made_ends : (start now : DeviceState) (before w : Option (List ℕ)) (gathered : List ℕ) (p : Progress) (count : ℕ) → Made start now before w gathered p count
+    → Leads (LineTo (sizes_of start) (Steps count) p) start now before w gathered
+made_ends start now before w gathered p count so_far = record {
+  moment = lacks_less count so_far.moment;
+  reached = record {
+    end = so_far.moment;
+    steps = so_far.steps;
+    leads = refl;
+    rests = all_weaker (LacksEnough now) (λ (run : OpenRun). run.lacks ≡ 0 → IsTrue (at_rest (tasks_at (sizes_of start) so_far.moment))) (lacks_less count so_far.moment).runs (λ run enough none.
+        let rests : AtRest now = at_rest_of now (λ going. absurd (omega (arith, enough going, some_left now going, none))) in
+        ap at_rest (tracks start now so_far.moment so_far.standing) ∙ resting_tasks now so_far.standing.stands.tasks so_far.standing.stands.keeps rests) lacking;
+  };
+  standing = record {
+    some_page = so_far.standing.some_page;
+    stands = so_far.standing.stands;
+    sizes = so_far.standing.sizes;
+    same = so_far.standing.same;
+    faults = so_far.standing.faults;
+    unmoved = so_far.standing.unmoved;
+    alive = so_far.standing.alive;
+    lacking = lacking;
+  };
+  printed = so_far.printed;
+}
+  where
+    lacking : AllByRecursion (LacksEnough now) (lacks_less count so_far.moment).runs
+    lacking = lacks_down now count so_far.moment.runs so_far.lacked
 
 -- what `receive` says of a device
 pub record Received (old new : DeviceState) (bytes out : List ℕ) (sent : Sent) : Type 0 where
@@ -270,6 +401,7 @@ told_leads start old new before w gathered gathered_now bytes out sent p at got 
         faults = rw (events, got.store, answers_fail_nothing (p.events ▹ Host bytes) sent out) at.faults;
         unmoved = rw events (still_unmoved (p.events ▹ Host bytes) sent out ∙ at.unmoved);
         alive = rw events (still_alive (p.events ▹ Host bytes) sent out at.alive (answer_alive start old new bytes out sent p at got));
+        lacking = tt;
       };
       printed = rw (events, is) (events_gathered before w p.events (Host bytes ∷ answer_events sent out) gathered printed);
     }

@@ -1,18 +1,23 @@
 -- Where a device and a text stand while a trace is replayed.
 use Rattle.std.specs.Prelude.{◌≡◌, ℕ, ◌≤◌, List, [], Option, Result, MatchResult}
+use Rattle.std.specs.List.{AllByRecursion}
 use Rattle.flat_unit.specs.Causes.{FailuresWithin}
 use Rattle.flat_unit.specs.Print.{print}
-use Rattle.flat_unit.specs.Replays.{Progress, StepsTo, LineTo, enough, tasks_at, without_runs}
+use Rattle.flat_unit.specs.Replays.{OpenRun, Progress, StepsTo, LineTo, enough, tasks_at, with_run, without_runs}
 use Rattle.flat_unit.specs.Sizes.{Sizes}
 use Rattle.flat_unit.specs.Writes.{moves}
 use Rattle.flat_unit.specs.Trace.{Line, Upiu, Steps, Collect, Drain, ResetLine, Blank}
 use Rattle.hpb_device.specs.Advance.{IsSameStore}
 use Rattle.hpb_device.specs.Standing.{DeviceStands, first_of, sizes_of}
-use Rattle.hpb_device.specs.State.{DeviceState}
+use Rattle.hpb_device.specs.State.{DeviceState, AtRest, steps_left}
 use Rattle.trace_replay.specs.declared.replay.Turn.{Turn}
 use Rattle.trace_replay.specs.declared.replay.Turn.TheVariants.{Served, Bad, Unwritten}
 use Rattle.trace_replay.specs.Transcript.{NeverDead}
 use Rattle.trace_replay.specs.Writes.{AppendsFront, HasWrittenUpTo}
+
+-- a device that can go on has no more steps left than a run lacks
+abbrev pub LacksEnough : DeviceState → OpenRun → Type 0
+LacksEnough now run = ¬ AtRest now → steps_left now ≤ run.lacks
 
 -- a device that began without events now stands at those of this moment
 pub record Standing (start now : DeviceState) (p : Progress) : Type 0 where
@@ -23,11 +28,12 @@ pub record Standing (start now : DeviceState) (p : Progress) : Type 0 where
   pub faults : FailuresWithin start.store.faults now.store.faults p.events
   pub unmoved : moves p.events ≡ 0
   pub alive : NeverDead p.events
+  pub lacking : AllByRecursion (LacksEnough now) p.runs
 
 -- a line that is served: all but collection and resets
 abbrev pub IsServedLine : Line → Type 0
 IsServedLine (Upiu bytes) = Unit {0}
-IsServedLine (Steps n) = ⊥
+IsServedLine (Steps n) = Unit {0}
 IsServedLine (Collect n) = ⊥
 IsServedLine Drain = Unit {0}
 IsServedLine ResetLine = ⊥
@@ -36,6 +42,7 @@ IsServedLine Blank = Unit {0}
 -- what a line may lead to that is cut after one of its calls: a UPIU is cut before the device has it
 abbrev pub CutLineTo : Sizes → Line → Progress → Progress → Type 0
 CutLineTo s (Upiu bytes) p now = now ≡ p
+CutLineTo s (Steps n) p now = (k : ℕ) × (k ≤ n) × StepsTo s k (with_run s p) now
 CutLineTo s Drain p now = (n : ℕ) × (n ≤ enough s (tasks_at s p)) × StepsTo s n (without_runs p) now
 CutLineTo s _ p now = ⊥
 

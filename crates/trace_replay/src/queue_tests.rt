@@ -1,5 +1,6 @@
 //! What the device answers: at once to any bytes of the host, and by steps.
-use crate::tests::{Outside, Script, WRITTEN, is_printed};
+use crate::status::Status;
+use crate::tests::{Outside, Script, WRITTEN, is_printed, replay};
 use std::process::Abort;
 use std::test::Fail;
 
@@ -79,7 +80,7 @@ fn what_is_refused_is_answered_at_once(rt: HostRuntime) -> Result<(), Fail> {
     Ok(())
 }
 
-/// Two blocks are read, one of them with more bytes expected than are moved, and none.
+/// Two blocks are read, then one with more bytes expected than are moved, then none.
 const READ_MANY: [(&str, &str); 6] = [
     ("U 01400004 z z 00002000 28000000 z 02000000 z", ""),
     (
@@ -141,5 +142,64 @@ fn other_data_are_answered(rt: HostRuntime) -> Result<(), Fail> {
     }
     script.add(&READ_MANY)?;
     assert!(rt; is_printed(rt.alloc(), &script, Outside::faultless(rt.alloc()))?);
+    Ok(())
+}
+
+/// The same by steps, with lines between them that do nothing.
+const STEPPED: [(&str, &str); 9] = [
+    ("U 01400004 z z 00002000 28000000 z 02000000 z", ""),
+    ("S 0", ""),
+    ("S 1", "< 22000004 z 00001000 z 00001000 z z z block"),
+    ("", ""),
+    (
+        "S 000001",
+        "< 22000004 z 00001000 00001000 00001000 z z z zeros",
+    ),
+    ("# comment", ""),
+    ("S 1", "< 21000004 z z z z z z z"),
+    ("S 5", ""),
+    ("D", ""),
+];
+
+/// A block is written by steps. Where the write waits for its data a step does nothing.
+const WRITTEN_BY_STEPS: [(&str, &str); 7] = [
+    ("S 5", ""),
+    ("U 01200002 z z 00001000 2a000000 z 01000000 z", ""),
+    ("S 3", "< 31000002 z z z 00001000 z z z"),
+    ("S 1", ""),
+    ("U 02000002 z 00001000 z 00001000 z z z block", ""),
+    ("S 1", ""),
+    ("S 999999", "< 21000002 z z z z z z z"),
+];
+
+#[test]
+fn steps_print_what_a_drain_prints(rt: HostRuntime) -> Result<(), Fail> {
+    let mut drained = Script::new(rt.alloc());
+    drained.add(&WRITTEN)?;
+    drained.add(&READ_MANY[..2])?;
+    assert!(rt; is_printed(rt.alloc(), &drained, Outside::faultless(rt.alloc()))?);
+    let mut stepped = Script::new(rt.alloc());
+    stepped.add(&WRITTEN_BY_STEPS)?;
+    stepped.add(&STEPPED)?;
+    assert!(rt; is_printed(rt.alloc(), &stepped, Outside::faultless(rt.alloc()))?);
+    assert!(rt; stepped.printed.as_slice() == drained.printed.as_slice());
+    Ok(())
+}
+
+/// A line that isn't served ends the run, behind what was served before it.
+#[test]
+fn collection_and_resets_are_refused(rt: HostRuntime) -> Result<(), Fail> {
+    for line in ["C 1", "R"] {
+        let mut script = Script::new(rt.alloc());
+        script.add(&WRITTEN_BY_STEPS)?;
+        script.trace.extend_from_slice(line.as_bytes())?;
+        script.printed.extend_from_slice(b"E line 8\n")?;
+        let ran = replay(rt.alloc(), &script.trace, Outside::faultless(rt.alloc()))?;
+        assert!(rt; ran.status == Status::BadLine(8), "{line}");
+        assert!(rt;
+            ran.printed.as_slice() == script.printed.as_slice(),
+            "{line}"
+        );
+    }
     Ok(())
 }

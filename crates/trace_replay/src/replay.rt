@@ -1,7 +1,7 @@
 ghost use Rattle.std.specs.Prelude.{◌≡◌, ◌≤◌, ◌+◌, ◌++◌, length, flat_map, [], None, IfOk, OnOk};
 ghost use Rattle.flat_unit.specs.Print.{line_of};
 ghost use Rattle.flat_unit.specs.Replays.{events_of};
-ghost use Rattle.flat_unit.specs.Trace.{Upiu, Drain};
+ghost use Rattle.flat_unit.specs.Trace.{Upiu, Steps, Drain};
 ghost use Rattle.hpb_device.specs.Standing.{group_of};
 ghost use Rattle.trace_text.specs.Grammar.{line_said, room_taken};
 ghost use Rattle.trace_replay.specs.Moments.{Serves, TurnServes};
@@ -110,6 +110,27 @@ fn drain<K: Sink, F: Flash>(
     Ok(())
 }
 
+/// Makes so many steps.
+fn make_steps<K: Sink, F: Flash>(
+    device: &mut Device<F>,
+    count: u32,
+    upiu: &mut UpiuBuf,
+    output: &mut Output,
+    sink: &mut K,
+) -> Result<(), Failed>
+    ensures serves { Serves (Steps count) device.old device.new (K.written sink.old) (K.written sink.new) output.old output.new result }
+    ensures cause { HasCause (K.faults sink.old) (K.faults sink.new) result }
+{
+    for _step in 0..count {
+        make_room(output, sink)?;
+        let stepped = device.step(upiu);
+        if !stepped.idle {
+            push_step(stepped, upiu, output);
+        }
+    }
+    Ok(())
+}
+
 /// Hands the device a UPIU of the host.
 fn receive_line<K: Sink, F: Flash>(
     device: &mut Device<F>,
@@ -162,7 +183,11 @@ fn serve<K: Sink, F: Flash>(
             Err(Failed) => Turn::Unwritten,
         },
         Line::Upiu(count) => receive_line(device, &room[..count], upiu, output, sink),
-        Line::Steps(_) | Line::Collect(_) | Line::Reset => Turn::Bad,
+        Line::Steps(count) => match make_steps(device, count, upiu, output, sink) {
+            Ok(()) => Turn::Served,
+            Err(Failed) => Turn::Unwritten,
+        },
+        Line::Collect(_) | Line::Reset => Turn::Bad,
     }
 }
 

@@ -166,9 +166,9 @@ impl Outside {
 
 /// How a run ended, and what it printed.
 #[derive(Drop)]
-struct Ran {
-    status: Status,
-    printed: Vec<u8>,
+pub struct Ran {
+    pub status: Status,
+    pub printed: Vec<u8>,
 }
 
 fn run_words(alloc: Global, words: &[&str], trace: &[u8], outside: Outside) -> Result<Ran, Fail> {
@@ -193,7 +193,7 @@ fn run_words(alloc: Global, words: &[&str], trace: &[u8], outside: Outside) -> R
     })
 }
 
-fn replay(alloc: Global, trace: &[u8], outside: Outside) -> Result<Ran, Fail> {
+pub fn replay(alloc: Global, trace: &[u8], outside: Outside) -> Result<Ran, Fail> {
     let words = ["replay", "--blocks", "8", "--pages", "4"];
     run_words(alloc, &words, trace, outside)
 }
@@ -397,7 +397,7 @@ fn is_refused(alloc: Global, words: &str) -> Result<bool, Fail> {
 
 #[test]
 fn other_lines_are_refused(rt: HostRuntime) -> Result<(), Fail> {
-    for line in ["U 0", "U 0g", "S 1", "C 1", "R", "X", "d", "D\r"] {
+    for line in ["U 0", "U 0g", "S", "S 1234567", "C 1", "R", "X", "d", "D\r"] {
         assert!(rt; is_refused(rt.alloc(), line)?, "{line}");
     }
     Ok(())

@@ -10,5 +10,11 @@ returns-in-Ok-clause-turn g c start before p at printed = rw c.in-Drain.is (tt, 
 pub returns-in-Err-clause-turn : goal.returns-in-Err-clause-turn
 returns-in-Err-clause-turn g c start before p at printed = rw c.in-Drain.is (c.in-Err.ensures.serves start before p at printed)
 
+pub returns-in-Ok-make_steps-clause-turn : goal.returns-in-Ok-make_steps-clause-turn
+returns-in-Ok-make_steps-clause-turn g c start before p at printed = rw c.in-Steps.is (tt, c.in-Ok-make_steps.ensures.serves start before p at printed)
+
+pub returns-in-Err-make_steps-clause-turn : goal.returns-in-Err-make_steps-clause-turn
+returns-in-Err-make_steps-clause-turn g c start before p at printed = rw c.in-Steps.is (c.in-Err-make_steps.ensures.serves start before p at printed)
+
 pub returns-in-Upiu-clause-turn : goal.returns-in-Upiu-clause-turn
 returns-in-Upiu-clause-turn g c start before p at printed = rw c.in-Upiu.is (rw (← c.deref.ensures.value) (c.receive_line.ensures.turn start before p at printed))

@@ -1,5 +1,5 @@
 -- What answers bytes of the host at once never tells that the unit has failed for good.
-use Rattle.std.proofs.Common.{◌≡◌, ℕ, Bool, true, false, not, ◌&&◌, ◌-◌, nat_lt, nat_le, List, [], ◌∷◌, length, Option, Some, None, Result, Ok, Err, refl, sym, ◌∙◌, ap, subst, arith}
+use Rattle.std.proofs.Common.{◌≡◌, ℕ, Bool, true, false, not, ◌&&◌, ◌-◌, nat_lt, nat_le, List, [], ◌∷◌, length, Option, Some, None, Result, Ok, Err, refl, sym, ◌∙◌, subst, arith}
 use Rattle.std.specs.Prelude.{if◌then◌else◌, ◌==◌}
 use Rattle.std.specs.List.{list_any}
 use Rattle.hpb_cdb.specs.declared.cdb.Cdb.{Cdb}
@@ -22,7 +22,6 @@ use Rattle.flat_unit.specs.Senses.{bad_field, no_unit, sense_of_fault, unknown_o
 use Rattle.flat_unit.specs.Sizes.{Sizes}
 use Rattle.flat_unit.specs.Sound.{answers_to, reply_events}
 use Rattle.flat_unit.specs.Task.{Task}
-use Rattle.flat_unit.proofs.History.{other_kind}
 use Rattle.hpb_device.proofs.Going.{other_code}
 
 -- it is no CHECK CONDITION with this code

@@ -1,5 +1,5 @@
 -- A device that can go on has a step left.
-use Rattle.std.proofs.Common.{ℕ, ◌≤◌, Option, Some, None, arith}
+use Rattle.std.proofs.Common.{◌≤◌, Option, Some, None, arith}
 use Rattle.std.specs.Prelude.{MatchOption, ⊤}
 use Rattle.std.specs.Option.{option_map_or}
 use Rattle.hpb_device.specs.declared.task.Task.{Task}

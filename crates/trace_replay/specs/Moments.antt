@@ -1,5 +1,5 @@
 -- Where a device and a text stand while a trace is replayed.
-use Rattle.std.specs.Prelude.{◌≡◌, ℕ, ◌≤◌, List, [], Option, Result, MatchResult}
+use Rattle.std.specs.Prelude.{◌≡◌, ℕ, ◌≤◌, List, Option, Result, MatchResult}
 use Rattle.std.specs.List.{AllByRecursion}
 use Rattle.flat_unit.specs.Causes.{FailuresWithin}
 use Rattle.flat_unit.specs.Print.{print}

@@ -110,7 +110,7 @@ fn drain<K: Sink, F: Flash>(
     Ok(())
 }
 
-/// Makes so many steps.
+/// Makes so many steps. One where nothing is to be done prints nothing.
 fn make_steps<K: Sink, F: Flash>(
     device: &mut Device<F>,
     count: u32,

@@ -238,11 +238,15 @@ blank_leads start now before w gathered p at printed = record {
   printed = printed;
 }
 
+-- the same after so many calls that the run doesn't count yet
+abbrev pub LacksBeside : ℕ → DeviceState → OpenRun → Type 0
+LacksBeside count now run = ¬ AtRest now → count + steps_left now ≤ run.lacks
+
 -- so many steps of a line were made
 pub record Made (start now : DeviceState) (before written : Option (List ℕ)) (gathered : List ℕ) (p : Progress) (count : ℕ) : Type 0 where
   pub moment : Progress
   pub steps : StepsTo (sizes_of start) count (with_run (sizes_of start) p) moment
-  pub lacked : AllByRecursion (λ (run : OpenRun). ¬ AtRest now → count + steps_left now ≤ run.lacks) moment.runs
+  pub lacked : AllByRecursion (LacksBeside count now) moment.runs
   pub standing : Standing start now moment
   pub printed : HasWrittenUpTo before written (print moment.events) gathered
 
@@ -250,7 +254,7 @@ pub made_begins : (start now : DeviceState) (before w : Option (List ℕ)) (gath
 made_begins start now before w gathered p at printed = record {
   moment = with_run (sizes_of start) p;
   steps = refl;
-  lacked = all_weaker (LacksEnough now) (λ (run : OpenRun). ¬ AtRest now → 0 + steps_left now ≤ run.lacks) (with_run (sizes_of start) p).runs (λ run enough going. omega (arith, enough going)) (run_standing start now p at).lacking;
+  lacked = all_weaker (LacksEnough now) (LacksBeside 0 now) (with_run (sizes_of start) p).runs (λ run enough going. omega (arith, enough going)) (run_standing start now p at).lacking;
   standing = run_standing start now p at;
   printed = printed;
 }
@@ -272,7 +276,7 @@ pub made_goes_on : (start old new : DeviceState) (before w : Option (List ℕ)) 
 made_goes_on start old new before w gathered gathered_now p r out count next counted step is so_far = record {
   moment = after_step start so_far.moment r out;
   steps = one_more start old before w gathered p (after_step start so_far.moment r out) count next counted so_far (step_leads start old new so_far.moment r out so_far.standing step);
-  lacked = all_weaker (λ (run : OpenRun). ¬ AtRest old → count + steps_left old ≤ run.lacks) (λ (run : OpenRun). ¬ AtRest new → next + steps_left new ≤ run.lacks) so_far.moment.runs
+  lacked = all_weaker (LacksBeside count old) (LacksBeside next new) so_far.moment.runs
       (λ run enough going. omega (arith, enough step.going, step.fewer, counted)) so_far.lacked;
   standing = step_standing start old new so_far.moment r out so_far.standing step;
   printed = rw is (events_gathered before w so_far.moment.events (events_of (group_of r out)) gathered so_far.printed);
@@ -294,7 +298,7 @@ pub made_rests : (start now : DeviceState) (before w : Option (List ℕ)) (gathe
 made_rests start now before w gathered p count next counted rests so_far = record {
   moment = after_rest start so_far.moment;
   steps = one_more start now before w gathered p (after_rest start so_far.moment) count next counted so_far (rest_leads start now so_far.moment so_far.standing rests);
-  lacked = all_weaker (λ (run : OpenRun). ¬ AtRest now → count + steps_left now ≤ run.lacks) (λ (run : OpenRun). ¬ AtRest now → next + steps_left now ≤ run.lacks) so_far.moment.runs
+  lacked = all_weaker (LacksBeside count now) (LacksBeside next now) so_far.moment.runs
       (λ run enough going. absurd (going rests)) so_far.lacked;
   standing = record {
     some_page = so_far.standing.some_page;
@@ -315,7 +319,7 @@ pub made_is_cut : (start now : DeviceState) (before w written : Option (List ℕ
 made_is_cut start now before w written gathered p count limit below so_far cut =
     record { moment = so_far.moment; reached = (count, below, so_far.steps); standing = so_far.standing; printed = cut }
 
-lacks_down : (now : DeviceState) (count : ℕ) (runs : List OpenRun) → AllByRecursion (λ (run : OpenRun). ¬ AtRest now → count + steps_left now ≤ run.lacks) runs
+lacks_down : (now : DeviceState) (count : ℕ) (runs : List OpenRun) → AllByRecursion (LacksBeside count now) runs
     → AllByRecursion (LacksEnough now) (map (λ (run : OpenRun). record run { lacks = run.lacks - count }) runs)
 lacks_down now count [] all = tt
 lacks_down now count (run ∷ runs) all = (λ going. omega (arith, all.0 going), lacks_down now count runs all.1)

@@ -78,13 +78,13 @@ pub current-valid : (chip : List Page) (p : Place) (n : ℕ) → is_valid_page c
 current-valid chip p n valid named = current-named chip p n (page_at chip n) valid named
 
 -- no page of an erased chip is valid
-none_valid : (count n : ℕ) → get_or (replicate count false) n false ≡ false
-none_valid zero n = refl
-none_valid (suc count) zero = refl
-none_valid (suc count) (suc n) = none_valid count n
+false-replicate : (count n : ℕ) → get_or (replicate count false) n false ≡ false
+false-replicate zero n = refl
+false-replicate (suc count) zero = refl
+false-replicate (suc count) (suc n) = false-replicate count n
 
 pub valid-erased : (count n : ℕ) → get_or (replicate count false) n false ≡ is_valid_page (replicate count Erased) n
-valid-erased count n = none_valid count n ∙ sym (ap (has_current (replicate count Erased) n) (page_at-erased count n))
+valid-erased count n = false-replicate count n ∙ sym (ap (has_current (replicate count Erased) n) (page_at-erased count n))
 
 module _ (chip : List Page) (flags : List Bool) (page : ℕ) (bytes : List ℕ) (spare : Spare) (whole : length flags ≡ length chip) (each : (n : ℕ) → get_or flags n false ≡ is_valid_page chip n) (inside : page < length chip) (erased : page_at chip page ≡ Erased) (next : spare.seq ≡ next_seq chip) where
   abbrev programmed : List Page

@@ -1,7 +1,8 @@
 -- The entries that READ BUFFER lists, and what they say (this project's own). An entry is the number of the page that holds a
 -- block, and 2 ^ 64 - 1 where none does.
 use Rattle.std.specs.Prelude.{◌≡◌, ◌<◌, ◌⊎◌, ◌^◌, ℕ, ◌+◌, ◌-◌, ◌*◌, Bool, false, not, ◌&&◌, ◌||◌, List, [], ◌∷◌, length, slice_range, Option, Some, None, if◌then◌else◌, ◌==◌, nat_le, MatchBool}
-use Rattle.byteorder.specs.Endian.{big_number}
+use Rattle.std.specs.List.{flat_map, range_with_len}
+use Rattle.byteorder.specs.Endian.{big_bytes, big_number}
 use Rattle.flash_pages.specs.Place.{Place}
 use Rattle.hpb_cdb.specs.declared.cdb.Cdb.{Cdb}
 use Rattle.hpb_cdb.specs.declared.cdb.Cdb.TheVariants.{ReadBuffer}
@@ -19,6 +20,10 @@ use Rattle.flat_unit.specs.Writes.{takes_data, is_touched, is_settled}
 
 abbrev pub no_page : ℕ
 no_page = 2 ^ 64 - 1
+
+-- the entries of blocks from an LBA on, one after another, 8 bytes each
+abbrev pub entries_from : (ℕ → ℕ) → ℕ → ℕ → List ℕ
+entries_from entry_of first count = flat_map (λ (lba : ℕ). big_bytes 8 (entry_of lba)) (range_with_len first count)
 
 -- the number that stands at a place of a list of entries, where this piece of the list has all its 8 bytes
 abbrev pub number_in : List ℕ → ℕ → ℕ → Option ℕ

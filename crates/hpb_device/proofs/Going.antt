@@ -36,6 +36,7 @@ use Rattle.hpb_device.specs.Keeps.{KeepsTasks, IsTaskOf, waiting_of}
 use Rattle.hpb_device.specs.Standing.{DeviceStands, first_of, group_of, kept_of, programmed_of, sizes_of}
 use Rattle.hpb_device.specs.State.{DeviceState, AreAtRest, AtRest, steps_left}
 use Rattle.hpb_device.specs.Task.{IsTaskOk, bytes_given, bytes_taken, steps_of}
+use Rattle.hpb_device.proofs.Leaving.{some_left}
 use Rattle.hpb_device.proofs.Stepping.{is_written, sizes_same}
 
 -- a call failed only where the count of faults rose
@@ -111,6 +112,17 @@ rests_by (head ∷ others) held tasks keeps rests =
 
 pub resting_tasks : (device : DeviceState) (tasks : List Waiting) → KeepsTasks device.tasks device.held tasks → AtRest device → at_rest tasks ≡ true
 resting_tasks device tasks keeps rests = rests_by device.tasks device.held tasks keeps rests
+
+-- a device that can go on has a step left
+left_by : (kept : List Task) → (AreAtRest kept → ⊥) → 1 ≤ sum_by steps_of kept
+left_by [] going = absurd (going tt)
+left_by (head ∷ others) going =
+    let all = sum_by-cons steps_of head others in
+    let some = some_left head in
+    omega (arith, all, some)
+
+pub going_left : (device : DeviceState) → (AtRest device → ⊥) → 1 ≤ steps_left device
+going_left device going = left_by device.tasks going
 
 -- no more steps are left than the tasks need
 few_for : (s : Sizes) (task : Task) (command : Cdb) → 1 ≤ s.erase_block

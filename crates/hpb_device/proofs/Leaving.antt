@@ -60,7 +60,7 @@ less_first f rest task others less =
 less_without : (f : Task → ℕ) (task : Task) (others : List Task) → 0 < f task → sum_by f others < sum_by f (task ∷ others)
 less_without f task others some = let right = sum_by-cons f task others in omega (arith, some, right)
 
-some_left : (task : Task) → 0 < steps_of task
+pub some_left : (task : Task) → 0 < steps_of task
 some_left task = omega arith
 
 pub leaves_fewer : (task : Task) (progress : Progress) (others tasks : List Task) (held : List ℕ) (result : Stepped) (out : List ℕ) → Leaves progress others tasks held result out

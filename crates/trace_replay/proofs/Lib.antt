@@ -1,6 +1,5 @@
 pub mod Codes
 pub mod Gathered
-pub mod Left
 pub mod Numbers
 pub mod Options
 pub mod Rows

@@ -34,7 +34,7 @@ use Rattle.hpb_device.proofs.Going.{at_rest_of, going_fails, going_is_silent, go
 use Rattle.trace_replay.specs.Moments.{Standing, LacksEnough, Leads, Cuts, CutLineTo}
 use Rattle.trace_replay.specs.Writes.{AppendsFront, HasWrittenUpTo}
 use Rattle.trace_replay.proofs.Codes.{answer_tells}
-use Rattle.trace_replay.proofs.Left.{some_left}
+use Rattle.hpb_device.proofs.Going.{going_left}
 use Rattle.trace_replay.proofs.Written.{gathers_more}
 
 -- the lines of more events are gathered
@@ -333,7 +333,7 @@ made_ends start now before w gathered p count so_far = record {
     steps = so_far.steps;
     leads = refl;
     rests = all_weaker (LacksEnough now) (λ (run : OpenRun). run.lacks ≡ 0 → IsTrue (at_rest (tasks_at (sizes_of start) so_far.moment))) (lacks_less count so_far.moment).runs (λ run enough none.
-        let rests : AtRest now = at_rest_of now (λ going. absurd (omega (arith, enough going, some_left now going, none))) in
+        let rests : AtRest now = at_rest_of now (λ going. absurd (omega (arith, enough going, going_left now going, none))) in
         ap at_rest (tracks start now so_far.moment so_far.standing) ∙ resting_tasks now so_far.standing.stands.tasks so_far.standing.stands.keeps rests) lacking;
   };
   standing = record {

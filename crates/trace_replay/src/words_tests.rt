@@ -162,15 +162,17 @@ fn numbers_outside_their_limits_are_a_geometry_fault(rt: HostRuntime) -> Result<
 
 #[test]
 fn the_unit_has_the_named_blocks(rt: HostRuntime) -> Result<(), Fail> {
-    // Block 19.
+    // Block 19 is read, or it is past the unit's last one and the read is answered at once.
     let read = "U 01400001 z z 00001000 28000000 00130000 01000000 z";
-    for (words, status) in [
-        ("replay --blocks 8 --pages 4", Status::Done),
-        ("replay --blocks 8 --pages 4 --units 20", Status::Done),
-        ("replay --blocks 8 --pages 4 --units 19", Status::BadLine(1)),
+    for (words, lines) in [
+        ("replay --blocks 8 --pages 4", 1),
+        ("replay --blocks 8 --pages 4 --units 20", 1),
+        ("replay --blocks 8 --pages 4 --units 19", 2),
     ] {
         let ran = run_over(rt.alloc(), words, read)?;
-        assert!(rt; ran.status == status, "{words}");
+        assert!(rt; ran.status == Status::Done, "{words}");
+        let printed = ran.printed.iter().filter(|byte| **byte == b'\n').count();
+        assert_eq!(rt; printed, lines, "{words}");
     }
     Ok(())
 }

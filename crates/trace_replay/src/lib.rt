@@ -15,6 +15,8 @@ pub use words::chip_of;
 #[cfg(test)]
 mod layout_tests;
 #[cfg(test)]
+mod oracle;
+#[cfg(test)]
 mod queue_tests;
 #[cfg(test)]
 mod tests;

@@ -1,0 +1,821 @@
+//! A checker of transcripts. It reads the bytes at their places by itself, and keeps its own tasks and blocks, so that it
+//! shares nothing with the device that it judges.
+use crate::texts::push_words;
+use hpb_outside::NoMemory;
+use std::alloc::{AllocError, AllocFailed, Global};
+use std::collections::VecDeque;
+use std::test::Fail;
+
+/// The bytes of a block, and of what a READY TO TRANSFER asks for at most.
+const BLOCK: usize = 4096;
+
+const BLOCK_BYTES: u32 = 4096;
+
+const BURST_BYTES: u32 = 32_768;
+
+/// The tasks that are kept at most.
+const ROOM: usize = 32;
+
+/// The bytes of a UPIU before its data segment.
+const HEADER: usize = 32;
+
+/// The codes of the kinds of UPIU (JESD220).
+const CODES: [u8; 12] = [
+    0x00, 0x01, 0x02, 0x04, 0x16, 0x20, 0x21, 0x22, 0x24, 0x31, 0x36, 0x3F,
+];
+
+/// Sense keys and additional sense codes (SPC).
+const UNREAD: (u8, u8) = (0x3, 0x11);
+
+const UNPROGRAMMED: (u8, u8) = (0x3, 0x0C);
+
+const NO_PAGE: (u8, u8) = (0x7, 0x27);
+
+const UNKNOWN_OPCODE: (u8, u8) = (0x5, 0x20);
+
+const OUT_OF_RANGE: (u8, u8) = (0x5, 0x21);
+
+const BAD_FIELD: (u8, u8) = (0x5, 0x24);
+
+const NO_UNIT: (u8, u8) = (0x5, 0x25);
+
+const WRONG_DATA: (u8, u8) = (0xB, 0x4B);
+
+/// The sizes of a device: its logical units, the blocks of each, which are zeros at first, and the pages of its chip.
+#[derive(Clone, Copy)]
+pub struct Sizes {
+    pub luns: u8,
+    pub units: u32,
+    pub pages: u32,
+}
+
+/// What is wrong with a line of a transcript.
+#[derive(Clone, Copy, Debug, PartialEq, Eq)]
+pub enum Why {
+    /// A transcript has no such line.
+    Line,
+    /// It isn't the reply that is due.
+    Reply,
+    /// The first task may not send it.
+    Sent,
+    /// Its place can't have this block.
+    Block,
+    /// Nothing caused the sense.
+    Cause,
+}
+
+/// What was found of a transcript.
+#[derive(Clone, Copy, Debug, PartialEq, Eq)]
+pub enum Verdict {
+    /// All its lines are allowed. It rests where nothing can go on without the host.
+    Sound { rests: bool },
+    /// The number of the first line that isn't, from 1.
+    Bad(usize, Why),
+}
+
+/// What ends a check.
+#[derive(Clone, Copy, Debug)]
+enum Stop {
+    Bad(Why),
+    Memory,
+}
+
+impl From<AllocError> for Stop {
+    fn from(_: AllocError) -> Self {
+        Stop::Memory
+    }
+}
+
+impl<T: Drop> From<AllocFailed<T>> for Stop {
+    fn from(_: AllocFailed<T>) -> Self {
+        Stop::Memory
+    }
+}
+
+/// A call of the chip.
+#[derive(Clone, Copy, PartialEq, Eq)]
+enum Call {
+    Read,
+    Change,
+}
+
+/// A command that is served.
+#[derive(Clone, Copy)]
+enum Command {
+    TestReady,
+    Capacity,
+    Sync { lba: u32, n: u16 },
+    Read { lba: u32, n: u16 },
+    Write { lba: u32, n: u16 },
+}
+
+impl Command {
+    /// The command of a CDB, or the sense that refuses it.
+    fn of(cdb: &[u8], units: u32) -> Result<Command, (u8, u8)> {
+        let lba = number(cdb, 2, 4);
+        let n = (number(cdb, 7, 2) & 0xFFFF) as u16;
+        let command = match byte(cdb, 0) {
+            0x00 => return Ok(Command::TestReady),
+            0x25 => return Ok(Command::Capacity),
+            0x28 => Command::Read { lba, n },
+            0x2A => Command::Write { lba, n },
+            0x35 => Command::Sync { lba, n },
+            _ => return Err(UNKNOWN_OPCODE),
+        };
+        if u64::from(lba) + u64::from(n) > u64::from(units) {
+            return Err(OUT_OF_RANGE);
+        }
+        Ok(command)
+    }
+
+    /// The bytes that it sends.
+    fn given(self) -> u32 {
+        match self {
+            Command::Read { n, .. } => u32::from(n) * BLOCK_BYTES,
+            Command::Capacity => 8,
+            _ => 0,
+        }
+    }
+
+    /// The bytes that it takes.
+    fn taken(self) -> u32 {
+        match self {
+            Command::Write { n, .. } => u32::from(n) * BLOCK_BYTES,
+            _ => 0,
+        }
+    }
+}
+
+/// A command that is kept: what it asked for, what came for it, and what it sent.
+#[derive(Drop)]
+struct Task {
+    lun: u8,
+    tag: u8,
+    command: Command,
+    expected: u32,
+    asked: u32,
+    come: Vec<u8>,
+    sent: u32,
+}
+
+impl Task {
+    /// How many bytes have come.
+    fn come(&self) -> u32 {
+        u32::try_from(self.come.len()).unwrap_or(u32::MAX)
+    }
+
+    fn waits(&self) -> bool {
+        self.come() < self.asked
+    }
+
+    /// How many of the expected bytes were not moved.
+    fn left(&self, moved: u32) -> u32 {
+        self.expected.saturating_sub(moved)
+    }
+}
+
+/// What a UPIU says, read at its places.
+#[derive(Clone, Copy)]
+struct Upiu<'a> {
+    code: u8,
+    lun: u8,
+    tag: u8,
+    first: u32,
+    count: u32,
+    cdb: &'a [u8],
+    segment: &'a [u8],
+}
+
+impl<'a> Upiu<'a> {
+    fn at(bytes: &'a [u8]) -> Upiu<'a> {
+        let segment = bytes.get(HEADER..).unwrap_or(&[]);
+        let length = number(bytes, 10, 2) as usize;
+        Upiu {
+            code: byte(bytes, 0),
+            lun: byte(bytes, 2),
+            tag: byte(bytes, 3),
+            first: number(bytes, 12, 4),
+            count: number(bytes, 16, 4),
+            cdb: bytes.get(16..HEADER).unwrap_or(&[]),
+            segment: segment.get(..length).unwrap_or(&[]),
+        }
+    }
+}
+
+/// The byte at a place.
+fn byte(bytes: &[u8], place: usize) -> u8 {
+    bytes.get(place).copied().unwrap_or(0)
+}
+
+/// The number in so many bytes from a place on, the highest byte first.
+fn number(bytes: &[u8], place: usize, count: usize) -> u32 {
+    let mut sum = 0u32;
+    for byte in bytes.iter().skip(place).take(count) {
+        sum = sum.wrapping_mul(256).wrapping_add(u32::from(*byte));
+    }
+    sum
+}
+
+/// The bytes of hex digits of lower case.
+fn decode(alloc: Global, digits: &[u8]) -> Result<Vec<u8>, Stop> {
+    let mut bytes = Vec::new(alloc);
+    for pair in digits.chunks(2) {
+        let [high, low] = pair else {
+            return Err(Stop::Bad(Why::Line));
+        };
+        bytes.push((nibble(*high)? << 4) | nibble(*low)?)?;
+    }
+    Ok(bytes)
+}
+
+/// The value of a hex digit of lower case.
+fn nibble(digit: u8) -> Result<u8, Stop> {
+    match digit {
+        b'0'..=b'9' => Ok(digit - b'0'),
+        b'a'..=b'f' => Ok(digit - b'a' + 10),
+        _ => Err(Stop::Bad(Why::Line)),
+    }
+}
+
+/// The first of the six conditions that the bytes break as a UPIU.
+fn wire_fault(bytes: &[u8]) -> Option<u8> {
+    let code = byte(bytes, 0);
+    let segment = (number(bytes, 10, 2) & 0xFFFF) as usize;
+    if bytes.len() < HEADER {
+        return Some(1);
+    }
+    if code & 0xC0 != 0 {
+        return Some(2);
+    }
+    if byte(bytes, 8) != 0 {
+        return Some(3);
+    }
+    if bytes.len() != HEADER + segment.div_ceil(4) * 4 {
+        return Some(4);
+    }
+    if !CODES.contains(&code) {
+        return Some(5);
+    }
+    if code == 0x01 && byte(bytes, 4) & 0x0F != 0 {
+        return Some(6);
+    }
+    None
+}
+
+/// The bytes before a data segment of this length.
+fn header(code: u8, lun: u8, tag: u8, length: u32, first: u32, count: u32) -> [u8; HEADER] {
+    let [_, _, l2, l3] = length.to_be_bytes();
+    let [f0, f1, f2, f3] = first.to_be_bytes();
+    let [c0, c1, c2, c3] = count.to_be_bytes();
+    [
+        code, 0, lun, tag, 0, 0, 0, 0, 0, 0, l2, l3, f0, f1, f2, f3, c0, c1, c2, c3, 0, 0, 0, 0, 0,
+        0, 0, 0, 0, 0, 0, 0,
+    ]
+}
+
+/// A REJECT.
+fn reject(alloc: Global, lun: u8, tag: u8, reason: u8) -> Result<Vec<u8>, Stop> {
+    let mut bytes = header(0x3F, lun, tag, 0, u32::from(reason) << 24, 0);
+    bytes[6] = 0x01;
+    Ok(bytes.as_slice().to_vec(alloc)?)
+}
+
+/// A RESPONSE to the command with this LUN and tag, with fixed sense or none.
+fn response(
+    alloc: Global,
+    command: (u8, u8),
+    status: u8,
+    residual: u32,
+    sense: Option<(u8, u8)>,
+) -> Result<Vec<u8>, Stop> {
+    let (lun, tag) = command;
+    let length = if sense.is_some() { 20 } else { 0 };
+    let mut head = header(0x21, lun, tag, length, residual, 0);
+    if residual != 0 {
+        head[1] = 0x20;
+    }
+    if status != 0 {
+        head[6] = 0x01;
+        head[7] = status;
+    }
+    let mut bytes = head.as_slice().to_vec(alloc)?;
+    if let Some((key, code)) = sense {
+        bytes.extend_from_slice(&[
+            0, 18, 0x70, 0, key, 0, 0, 0, 0, 10, 0, 0, 0, 0, code, 0, 0, 0, 0, 0,
+        ])?;
+    }
+    Ok(bytes)
+}
+
+/// The tasks and blocks of a device whose transcript is read, the reply that is due, and the call of the chip that failed
+/// directly before.
+#[derive(Drop)]
+struct Oracle {
+    alloc: Global,
+    sizes: Sizes,
+    tasks: VecDeque<Task>,
+    places: Vec<Vec<Vec<u8>>>,
+    due: Option<Vec<u8>>,
+    failed: Option<Call>,
+    blocks_come: u64,
+}
+
+impl Oracle {
+    fn new(alloc: Global, sizes: Sizes) -> Result<Oracle, Stop> {
+        let mut places = Vec::new(alloc);
+        for _place in 0..u32::from(sizes.luns).saturating_mul(sizes.units) {
+            let mut blocks = Vec::new(alloc);
+            blocks.push(vec![in alloc; 0; BLOCK]?)?;
+            places.push(blocks)?;
+        }
+        Ok(Oracle {
+            alloc,
+            sizes,
+            tasks: VecDeque::new(alloc),
+            places,
+            due: None,
+            failed: None,
+            blocks_come: 0,
+        })
+    }
+
+    /// Whether nothing can go on without the host.
+    fn rests(&self) -> bool {
+        self.tasks.front().is_none_or(Task::waits)
+    }
+
+    fn take_line(&mut self, line: &[u8]) -> Result<(), Stop> {
+        if let Some(digits) = line.strip_prefix(b"< ") {
+            let bytes = decode(self.alloc, digits)?;
+            return self.take_device(&bytes);
+        }
+        if self.due.is_some() {
+            return Err(Stop::Bad(Why::Reply));
+        }
+        if let Some(digits) = line.strip_prefix(b"> ") {
+            let bytes = decode(self.alloc, digits)?;
+            return self.take_host(&bytes);
+        }
+        self.failed = match line {
+            b"! read" => Some(Call::Read),
+            b"! program" | b"! erase" => Some(Call::Change),
+            _ => return Err(Stop::Bad(Why::Line)),
+        };
+        Ok(())
+    }
+
+    fn take_host(&mut self, bytes: &[u8]) -> Result<(), Stop> {
+        self.failed = None;
+        self.due = self.reply_to(bytes)?;
+        if self.due.is_some() {
+            return Ok(());
+        }
+        let upiu = Upiu::at(bytes);
+        if upiu.code == 0x02 {
+            return self.take_data(upiu.segment);
+        }
+        self.keep(&upiu)
+    }
+
+    /// What answers the bytes at once.
+    fn reply_to(&self, bytes: &[u8]) -> Result<Option<Vec<u8>>, Stop> {
+        if let Some(reason) = wire_fault(bytes) {
+            let (lun, tag) = match bytes {
+                [_, _, lun, tag, ..] => (*lun, *tag),
+                _ => (0, 0),
+            };
+            return Ok(Some(reject(self.alloc, lun, tag, reason)?));
+        }
+        let upiu = Upiu::at(bytes);
+        match upiu.code {
+            0x00 => {
+                let answer = header(0x20, 0, upiu.tag, 0, 0, 0);
+                Ok(Some(answer.as_slice().to_vec(self.alloc)?))
+            }
+            0x01 => self.reply_to_command(&upiu),
+            0x02 => self.reply_to_data(&upiu),
+            _ => Ok(Some(reject(self.alloc, upiu.lun, upiu.tag, 7)?)),
+        }
+    }
+
+    fn reply_to_command(&self, upiu: &Upiu<'_>) -> Result<Option<Vec<u8>>, Stop> {
+        let of = (upiu.lun, upiu.tag);
+        if self.tasks.iter().any(|task| task.tag == upiu.tag) {
+            return Ok(Some(reject(self.alloc, upiu.lun, upiu.tag, 8)?));
+        }
+        if upiu.lun >= self.sizes.luns {
+            return Ok(Some(response(self.alloc, of, 0x02, upiu.first, Some(NO_UNIT))?));
+        }
+        if self.tasks.len() >= ROOM {
+            return Ok(Some(response(self.alloc, of, 0x28, upiu.first, None)?));
+        }
+        let sense = match Command::of(upiu.cdb, self.sizes.units) {
+            Ok(command) if upiu.first >= command.given().max(command.taken()) => return Ok(None),
+            Ok(_) => BAD_FIELD,
+            Err(sense) => sense,
+        };
+        Ok(Some(response(self.alloc, of, 0x02, upiu.first, Some(sense))?))
+    }
+
+    fn reply_to_data(&self, upiu: &Upiu<'_>) -> Result<Option<Vec<u8>>, Stop> {
+        let task = match self.tasks.front() {
+            Some(task) if task.waits() && task.lun == upiu.lun && task.tag == upiu.tag => task,
+            _ => return Ok(Some(reject(self.alloc, upiu.lun, upiu.tag, 9)?)),
+        };
+        let come = task.come();
+        let is_next = upiu.first == come
+            && upiu.count as usize == upiu.segment.len()
+            && upiu.count != 0
+            && come.saturating_add(upiu.count) <= task.asked;
+        if is_next {
+            return Ok(None);
+        }
+        let of = (upiu.lun, upiu.tag);
+        Ok(Some(response(self.alloc, of, 0x02, task.left(come), Some(WRONG_DATA))?))
+    }
+
+    /// Keeps a command, last in order.
+    fn keep(&mut self, upiu: &Upiu<'_>) -> Result<(), Stop> {
+        if let Ok(command) = Command::of(upiu.cdb, self.sizes.units) {
+            self.tasks.push_back(Task {
+                lun: upiu.lun,
+                tag: upiu.tag,
+                command,
+                expected: upiu.first,
+                asked: 0,
+                come: Vec::new(self.alloc),
+                sent: 0,
+            })?;
+        }
+        Ok(())
+    }
+
+    /// The first task takes data.
+    fn take_data(&mut self, segment: &[u8]) -> Result<(), Stop> {
+        if let Some(task) = self.tasks.front_mut() {
+            let before = task.come() / BLOCK_BYTES;
+            task.come.extend_from_slice(segment)?;
+            let blocks = (task.come() / BLOCK_BYTES).saturating_sub(before);
+            self.blocks_come = self.blocks_come.saturating_add(u64::from(blocks));
+        }
+        Ok(())
+    }
+
+    fn take_device(&mut self, bytes: &[u8]) -> Result<(), Stop> {
+        match self.due.take() {
+            Some(due) if due.as_slice() == bytes => {}
+            Some(_) => return Err(Stop::Bad(Why::Reply)),
+            None => self.judge(bytes)?,
+        }
+        self.failed = None;
+        let upiu = Upiu::at(bytes);
+        match upiu.code {
+            0x21 => self.end(upiu.tag, byte(bytes, 7) == 0),
+            0x22 => self.show(&upiu),
+            _ => {
+                self.ask(&upiu);
+                Ok(())
+            }
+        }
+    }
+
+    /// Whether a step may send these bytes for the first task.
+    fn judge(&self, bytes: &[u8]) -> Result<(), Stop> {
+        let Some(task) = self.tasks.front() else {
+            return Err(Stop::Bad(Why::Sent));
+        };
+        match byte(bytes, 0) {
+            0x21 => self.judge_end(task, bytes),
+            0x22 => self.judge_data(task, bytes),
+            _ => judge_ask(task, bytes),
+        }
+    }
+
+    fn judge_data(&self, task: &Task, bytes: &[u8]) -> Result<(), Stop> {
+        let length = match task.command {
+            Command::Read { .. } => BLOCK_BYTES,
+            _ => 8,
+        };
+        let head = header(0x22, task.lun, task.tag, length, task.sent, length);
+        let Some(segment) = bytes.strip_prefix(head.as_slice()) else {
+            return Err(Stop::Bad(Why::Sent));
+        };
+        if task.sent >= task.command.given() || segment.len() != length as usize {
+            return Err(Stop::Bad(Why::Sent));
+        }
+        let is_allowed = match task.command {
+            Command::Read { lba, .. } => self.allows(self.place(task, lba), segment),
+            _ => self.is_capacity(segment),
+        };
+        if is_allowed {
+            return Ok(());
+        }
+        Err(Stop::Bad(Why::Block))
+    }
+
+    /// The place of the block that a read from this LBA on sends next.
+    fn place(&self, task: &Task, lba: u32) -> usize {
+        let first = u64::from(task.lun).saturating_mul(u64::from(self.sizes.units));
+        let block = u64::from(lba) + u64::from(task.sent / BLOCK_BYTES);
+        first.saturating_add(block) as usize
+    }
+
+    fn allows(&self, place: usize, block: &[u8]) -> bool {
+        match self.places.get(place) {
+            Some(blocks) => blocks.iter().any(|allowed| allowed.as_slice() == block),
+            None => false,
+        }
+    }
+
+    /// The last LBA, and the bytes of a block.
+    fn is_capacity(&self, segment: &[u8]) -> bool {
+        number(segment, 0, 4) == self.sizes.units.wrapping_sub(1)
+            && number(segment, 4, 4) == BLOCK_BYTES
+    }
+
+    fn judge_end(&self, task: &Task, bytes: &[u8]) -> Result<(), Stop> {
+        let come = task.come();
+        let needed = task.command.given().max(task.command.taken());
+        let of = (task.lun, task.tag);
+        let has_moved = task.sent == task.command.given() && come == task.command.taken();
+        let good = response(self.alloc, of, 0x00, task.left(needed), None)?;
+        if has_moved && good.as_slice() == bytes {
+            return Ok(());
+        }
+        let sense = (byte(bytes, 36), byte(bytes, 46));
+        let left = task.left(task.sent.saturating_add(come));
+        let check = response(self.alloc, of, 0x02, left, Some(sense))?;
+        if check.as_slice() != bytes {
+            return Err(Stop::Bad(Why::Sent));
+        }
+        self.judge_sense(task.command, sense)
+    }
+
+    /// Whether a command may end with this sense, and something caused it.
+    fn judge_sense(&self, command: Command, sense: (u8, u8)) -> Result<(), Stop> {
+        let has_cause = match command {
+            Command::Read { .. } if sense == UNREAD => self.failed == Some(Call::Read),
+            Command::Write { .. } if sense == UNPROGRAMMED => self.failed.is_some(),
+            Command::Write { .. } if sense == NO_PAGE => {
+                self.blocks_come > u64::from(self.sizes.pages)
+            }
+            _ if sense == (0x4, 0x44) => false,
+            _ => return Err(Stop::Bad(Why::Sent)),
+        };
+        if has_cause {
+            return Ok(());
+        }
+        Err(Stop::Bad(Why::Cause))
+    }
+
+    /// The first task has asked for data.
+    fn ask(&mut self, upiu: &Upiu<'_>) {
+        if upiu.code != 0x31 {
+            return;
+        }
+        if let Some(task) = self.tasks.front_mut() {
+            if task.tag == upiu.tag {
+                task.asked = upiu.first.saturating_add(upiu.count);
+            }
+        }
+    }
+
+    /// The first task has sent data. A block that is shown counts alone.
+    fn show(&mut self, upiu: &Upiu<'_>) -> Result<(), Stop> {
+        let place = match self.tasks.front() {
+            Some(task) => match task.command {
+                Command::Read { lba, .. } => Some(self.place(task, lba)),
+                _ => None,
+            },
+            None => None,
+        };
+        if let Some(place) = place {
+            self.put_block(place, upiu.segment, true)?;
+        }
+        if let Some(task) = self.tasks.front_mut() {
+            task.sent = task.sent.saturating_add(upiu.count);
+        }
+        Ok(())
+    }
+
+    /// A task ends. The blocks of a write that came count alone where it was answered GOOD, and else are old or new.
+    fn end(&mut self, tag: u8, is_good: bool) -> Result<(), Stop> {
+        let Some(index) = self.tasks.iter().position(|task| task.tag == tag) else {
+            return Ok(());
+        };
+        let Some(task) = self.tasks.remove(index) else {
+            return Ok(());
+        };
+        let Command::Write { lba, .. } = task.command else {
+            return Ok(());
+        };
+        let mut place = self.place(&task, lba);
+        for block in task.come.chunks_exact(BLOCK) {
+            self.put_block(place, block, is_good)?;
+            place = place.saturating_add(1);
+        }
+        Ok(())
+    }
+
+    /// A place may have this block, and no other where it counts alone.
+    fn put_block(&mut self, place: usize, block: &[u8], is_alone: bool) -> Result<(), Stop> {
+        if let Some(blocks) = self.places.get_mut(place) {
+            if is_alone {
+                blocks.clear();
+            }
+            blocks.push(block.to_vec(self.alloc)?)?;
+        }
+        Ok(())
+    }
+}
+
+/// Whether a task may ask for data by these bytes.
+fn judge_ask(task: &Task, bytes: &[u8]) -> Result<(), Stop> {
+    let lacks = task.command.taken().saturating_sub(task.asked);
+    let count = lacks.min(BURST_BYTES);
+    let head = header(0x31, task.lun, task.tag, 0, task.asked, count);
+    if count > 0 && task.come() == task.asked && head.as_slice() == bytes {
+        return Ok(());
+    }
+    Err(Stop::Bad(Why::Sent))
+}
+
+/// What is found of the transcript of a device of these sizes.
+pub fn judge(alloc: Global, sizes: Sizes, text: &[u8]) -> Result<Verdict, Fail> {
+    let Ok(mut oracle) = Oracle::new(alloc, sizes) else {
+        return Err(NoMemory.into());
+    };
+    if text.is_empty() {
+        return Ok(Verdict::Sound { rests: true });
+    }
+    let mut line_number = 1usize;
+    let lines = text.strip_suffix(b"\n").unwrap_or(text);
+    for line in lines.split(|byte| *byte == b'\n') {
+        match oracle.take_line(line) {
+            Ok(()) => {}
+            Err(Stop::Bad(why)) => return Ok(Verdict::Bad(line_number, why)),
+            Err(Stop::Memory) => return Err(NoMemory.into()),
+        }
+        line_number = line_number.saturating_add(1);
+    }
+    if oracle.due.is_some() {
+        return Ok(Verdict::Bad(line_number, Why::Reply));
+    }
+    Ok(Verdict::Sound {
+        rests: oracle.rests(),
+    })
+}
+
+/// A write, the data that it asks for, and their read.
+const WRITE: &str = "> 01200002 z z 00001000 2a000000 z 01000000 z";
+
+const ASKED: &str = "< 31000002 z z z 00001000 z z z";
+
+const DATA: &str = "> 02000002 z 00001000 z 00001000 z z z block";
+
+const WRITTEN: &str = "< 21000002 z z z z z z z";
+
+const READ: &str = "> 01400003 z z 00001000 28000000 z 01000000 z";
+
+const SHOWN: &str = "< 22000003 z 00001000 z 00001000 z z z block";
+
+const ZEROS: &str = "< 22000003 z 00001000 z 00001000 z z z zeros";
+
+const ENDED: &str = "< 21000003 z z z z z z z";
+
+/// The same read of the next place.
+const READ_NEXT: &str = "> 01400003 z z 00001000 28000000 00010000 01000000 z";
+
+/// A NOP OUT.
+const NOP: &str = "> 00000008 z z z z z z z";
+
+/// A write that ends with these codes of sense.
+const WRITE_FAILED: &str =
+    "< 21000002 00000102 00000014 z z z z z 00127000 03000000 000a0000 00000c00 z";
+
+const NO_PAGE_LEFT: &str =
+    "< 21000002 00000102 00000014 z z z z z 00127000 07000000 000a0000 00002700 z";
+
+/// A read that ends with these.
+const READ_FAILED: &str =
+    "< 21200003 00000102 00000014 00001000 z z z z 00127000 03000000 000a0000 00001100 z";
+
+const CHIP_FAILED: &str =
+    "< 21200003 00000102 00000014 00001000 z z z z 00127000 04000000 000a0000 00004400 z";
+
+/// What is found of these lines at a unit of 20 blocks over 32 pages.
+fn judge_lines(alloc: Global, lines: &[&str]) -> Result<Verdict, Fail> {
+    let mut text = Vec::new(alloc);
+    for line in lines.iter().copied() {
+        push_words(&mut text, line)?;
+        text.push(b'\n')?;
+    }
+    let sizes = Sizes {
+        luns: 1,
+        units: 20,
+        pages: 32,
+    };
+    judge(alloc, sizes, &text)
+}
+
+#[test]
+fn sound_transcripts_are_allowed(rt: HostRuntime) -> Result<(), Fail> {
+    for (lines, rests) in [
+        ([].as_slice(), true),
+        (&[WRITE], false),
+        (&[WRITE, ASKED], true),
+        (&[WRITE, ASKED, DATA], false),
+        (&[WRITE, ASKED, DATA, WRITTEN, READ, SHOWN, ENDED], true),
+        (&[READ_NEXT, ZEROS, ENDED], true),
+        (&[READ, WRITE, ZEROS, ENDED, ASKED, DATA, WRITTEN], true),
+        // The block of a write that failed is old or new, until it is read.
+        (
+            &[WRITE, ASKED, DATA, "! program", WRITE_FAILED, READ, SHOWN],
+            false,
+        ),
+        (
+            &[WRITE, ASKED, DATA, "! program", WRITE_FAILED, READ, ZEROS],
+            false,
+        ),
+        (&[READ, "! read", READ_FAILED], true),
+        (&[NOP, "< 20000008 z z z z z z z"], true),
+        // More is expected than is moved.
+        (
+            &[
+                "> 01400003 z z 00002000 28000000 z 01000000 z",
+                ZEROS,
+                "< 21200003 z z 00001000 z z z z",
+            ],
+            true,
+        ),
+        // TEST UNIT READY, READ CAPACITY(10), SYNCHRONIZE CACHE(10).
+        (
+            &[
+                "> 01000003 z z z z z z z",
+                ENDED,
+                "> 01400003 z z 00000008 25000000 z z z",
+                "< 22000003 z 00000008 z 00000008 z z z 00000013 00001000",
+                ENDED,
+                "> 01000003 z z z 35000000 00130000 01000000 z",
+                ENDED,
+            ],
+            true,
+        ),
+    ] {
+        let count = lines.len();
+        let found = judge_lines(rt.alloc(), lines)?;
+        assert_eq!(rt; found, Verdict::Sound { rests }, "of {count} lines");
+    }
+    Ok(())
+}
+
+#[test]
+fn other_transcripts_are_refused(rt: HostRuntime) -> Result<(), Fail> {
+    for (lines, line, why) in [
+        // GOOD is left out, comes too early, or has another residual.
+        ([WRITE, ASKED, DATA, READ, SHOWN].as_slice(), 5, Why::Sent),
+        (&[READ, ENDED], 2, Why::Sent),
+        (
+            &[READ, ZEROS, "< 21200003 z z 00001000 z z z z"],
+            3,
+            Why::Sent,
+        ),
+        // A block that was never written, that of another place, and one that is stale.
+        (&[READ, SHOWN], 2, Why::Block),
+        (
+            &[WRITE, ASKED, DATA, WRITTEN, READ_NEXT, SHOWN],
+            6,
+            Why::Block,
+        ),
+        (&[WRITE, ASKED, DATA, WRITTEN, READ, ZEROS], 6, Why::Block),
+        // Sense without its cause.
+        (&[READ, READ_FAILED], 2, Why::Cause),
+        (&[READ, "! program", READ_FAILED], 3, Why::Cause),
+        (&[READ, "! read", WRITE, READ_FAILED], 4, Why::Cause),
+        (&[READ, "! read", CHIP_FAILED], 3, Why::Cause),
+        (&[WRITE, ASKED, DATA, WRITE_FAILED], 4, Why::Cause),
+        (&[WRITE, ASKED, DATA, NO_PAGE_LEFT], 4, Why::Cause),
+        // A reply that is missing, at the end too, or another.
+        (&[NOP, READ], 2, Why::Reply),
+        (&[NOP, "! read"], 2, Why::Reply),
+        (&[NOP], 2, Why::Reply),
+        (&[NOP, "< 20000009 z z z z z z z"], 2, Why::Reply),
+        (
+            &["> z", "< 3f000000 00000100 z 02000000 z z z z"],
+            2,
+            Why::Reply,
+        ),
+        // Data are asked for twice, or too many.
+        (&[WRITE, ASKED, ASKED], 3, Why::Sent),
+        (&[WRITE, "< 31000002 z z z 00002000 z z z"], 2, Why::Sent),
+        (&[ENDED], 1, Why::Sent),
+        // No lines of a transcript.
+        (&["E line 1"], 1, Why::Line),
+        (&["> 0"], 1, Why::Line),
+        (&["> 0F"], 1, Why::Line),
+    ] {
+        let found = judge_lines(rt.alloc(), lines)?;
+        assert_eq!(rt; found, Verdict::Bad(line, why));
+    }
+    Ok(())
+}

@@ -13,6 +13,8 @@ pub use status::{Outcome, Status};
 pub use words::chip_of;
 
 #[cfg(test)]
+mod hostile_tests;
+#[cfg(test)]
 mod layout_tests;
 #[cfg(test)]
 mod oracle;

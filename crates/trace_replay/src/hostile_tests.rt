@@ -1,0 +1,505 @@
+//! Hosts and chips that do what they shouldn't: whole runs, whose transcripts are judged by `oracle`.
+use super::*;
+use crate::oracle::{Sizes, Verdict, judge};
+use crate::texts::push_words;
+use flash_pages::{Geometry, MemFlash};
+use hpb_outside::{MemSink, MemSource};
+use std::alloc::Global;
+use std::process::Abort;
+use std::test::Fail;
+
+/// The words of a replay over `CHIP`.
+const WORDS: [&str; 1] = ["replay"];
+
+/// Whether a replay serves the bytes of each `U` line, and lines of steps. Where it doesn't, a run may end at such a line.
+const SERVES_ALL: bool = false;
+
+/// A chip whose unit has 20 blocks.
+const CHIP: Geometry = Geometry {
+    blocks: 8,
+    pages: 4,
+};
+
+const SIZES: Sizes = Sizes {
+    luns: 1,
+    units: 20,
+    pages: 32,
+};
+
+/// More than any of these runs prints.
+const ROOM: usize = 1_000_000;
+
+/// A block is written and read back.
+const ONE_BLOCK: [&str; 6] = [
+    "U 01200002 z z 00001000 2a000000 z 01000000 z",
+    "D",
+    "U 02000002 z 00001000 z 00001000 z z z block",
+    "D",
+    "U 01400003 z z 00001000 28000000 z 01000000 z",
+    "D",
+];
+
+/// Two blocks are written, and read with the block behind them.
+const TWO_BLOCKS: [&str; 6] = [
+    "U 01200002 z z 00002000 2a000000 00020000 02000000 z",
+    "D",
+    "U 02000002 z 00002000 z 00002000 z z z block zeros",
+    "D",
+    "U 01400003 z z 00003000 28000000 00020000 03000000 z",
+    "D",
+];
+
+/// Another block is written and read back.
+const BEHIND: [&str; 6] = [
+    "U 01200004 z z 00001000 2a000000 00070000 01000000 z",
+    "D",
+    "U 02000004 z 00001000 z 00001000 z z z block",
+    "D",
+    "U 01400005 z z 00001000 28000000 00070000 01000000 z",
+    "D",
+];
+
+/// What is printed where both are answered GOOD.
+const BEHIND_PRINTED: [&str; 7] = [
+    "> 01200004 z z 00001000 2a000000 00070000 01000000 z",
+    "< 31000004 z z z 00001000 z z z",
+    "> 02000004 z 00001000 z 00001000 z z z block",
+    "< 21000004 z z z z z z z",
+    "> 01400005 z z 00001000 28000000 00070000 01000000 z",
+    "< 22000005 z 00001000 z 00001000 z z z block",
+    "< 21000005 z z z z z z z",
+];
+
+/// Adds lines of words to a text.
+fn push_lines(text: &mut Vec<u8>, lines: &[&str]) -> Result<(), Fail> {
+    for line in lines.iter().copied() {
+        push_words(text, line)?;
+        text.push(b'\n')?;
+    }
+    Ok(())
+}
+
+fn text_of(alloc: Global, lines: &[&str]) -> Result<Vec<u8>, Fail> {
+    let mut text = Vec::new(alloc);
+    push_lines(&mut text, lines)?;
+    Ok(text)
+}
+
+/// How a run ended, the events that it printed, and what is found of them.
+#[derive(Drop)]
+struct Ran {
+    status: Status,
+    text: Vec<u8>,
+    verdict: Verdict,
+}
+
+impl Ran {
+    /// Whether the trace was served to its end, where all is done that can be done without the host.
+    fn is_served(&self) -> bool {
+        match self.status {
+            Status::Done => self.verdict == Verdict::Sound { rests: true },
+            Status::BadLine(_) => !SERVES_ALL && self.is_sound(),
+            _ => false,
+        }
+    }
+
+    fn is_sound(&self) -> bool {
+        matches!(&self.verdict, Verdict::Sound { .. })
+    }
+
+    /// The lines that it printed.
+    fn lines(&self) -> usize {
+        self.text.iter().filter(|byte| **byte == b'\n').count()
+    }
+}
+
+/// Replays a trace over a chip, of whose calls those with these numbers fail.
+fn replay(alloc: Global, trace: &[u8], calls: &[u64]) -> Result<Ran, Fail> {
+    let mut words = Vec::new(alloc);
+    for word in WORDS {
+        words.push(String::from_str(alloc, word)?)?;
+    }
+    let mut source = MemSource::new(trace.to_vec(alloc)?, Vec::new(alloc), Vec::new(alloc));
+    let mut sink = MemSink::new(alloc, ROOM, Vec::new(alloc))?;
+    let flash = MemFlash::new(alloc, CHIP, calls.to_vec(alloc)?)?;
+    let status = run(alloc, &words, &mut source, &mut sink, flash).status;
+    let end = match status {
+        Status::BadLine(number) => format!(in alloc; "E line {number}\n")?,
+        _ => String::new(alloc),
+    };
+    let Some(text) = sink.bytes().strip_suffix(end.as_bytes()) else {
+        return Err(Fail::new("the last line isn't that of the status"));
+    };
+    Ok(Ran {
+        status,
+        text: text.to_vec(alloc)?,
+        verdict: judge(alloc, SIZES, text)?,
+    })
+}
+
+/// Where a line of a text begins.
+fn start_of(text: &[u8], line: usize) -> usize {
+    text.split(|byte| *byte == b'\n')
+        .take(line)
+        .fold(0usize, |start, line| {
+            start.saturating_add(line.len()).saturating_add(1)
+        })
+}
+
+/// Turns bits of a hex digit over.
+fn flip(digit: u8, bits: usize) -> u8 {
+    let digits = b"0123456789abcdef";
+    let value = digits.iter().position(|other| *other == digit).unwrap_or(0);
+    digits.get(value ^ bits).copied().unwrap_or(b'0')
+}
+
+/// A trace is served whatever bit of the header in one of its lines is turned over.
+fn bears_flips(rt: &impl Abort, alloc: Global, lines: &[&str], line: usize) -> Result<(), Fail> {
+    let trace = text_of(alloc, lines)?;
+    let start = start_of(&trace, line).saturating_add(2);
+    for digit in 0..64usize {
+        for bits in [1, 2, 4, 8usize] {
+            let mut flipped = trace.clone()?;
+            if let Some(place) = flipped.get_mut(start.saturating_add(digit)) {
+                *place = flip(*place, bits);
+            }
+            let ran = replay(alloc, &flipped, &[])?;
+            let verdict = ran.verdict;
+            assert!(rt; ran.is_served(), "digit {digit}, bits {bits}: {verdict:?}");
+        }
+    }
+    Ok(())
+}
+
+#[test]
+fn each_bit_of_a_write_is_turned_over(rt: HostRuntime) -> Result<(), Fail> {
+    bears_flips(&rt, rt.alloc(), &ONE_BLOCK, 0)
+}
+
+#[test]
+fn each_bit_of_its_data_is_turned_over(rt: HostRuntime) -> Result<(), Fail> {
+    bears_flips(&rt, rt.alloc(), &ONE_BLOCK, 2)
+}
+
+/// Whether a run may end so over a trace that was cut: at its end, or at its last line, which has no end.
+fn is_end_of(status: Status, cut: &[u8]) -> bool {
+    let lines = cut.iter().filter(|byte| **byte == b'\n').count();
+    match status {
+        Status::Done => true,
+        Status::BadLine(number) => !SERVES_ALL || number as usize == lines.saturating_add(1),
+        _ => false,
+    }
+}
+
+#[test]
+fn a_trace_is_cut_at_each_place(rt: HostRuntime) -> Result<(), Fail> {
+    for lines in [ONE_BLOCK, TWO_BLOCKS] {
+        let trace = text_of(rt.alloc(), &lines)?;
+        let whole = replay(rt.alloc(), &trace, &[])?;
+        // What the lines print that have their end.
+        let mut served = Vec::new(rt.alloc());
+        for place in 0..=100usize {
+            let cut = trace.get(..place).unwrap_or(&trace);
+            let ran = replay(rt.alloc(), cut, &[])?;
+            assert!(rt;
+                ran.is_sound() && is_end_of(ran.status, cut),
+                "after {place} bytes"
+            );
+            assert!(rt; ran.text.starts_with(&served), "after {place} bytes");
+            if cut.ends_with(b"\n") {
+                served = ran.text.clone()?;
+                assert!(rt; whole.text.starts_with(&served), "after {place} bytes");
+            }
+        }
+    }
+    Ok(())
+}
+
+/// A trace with so many lines in the place of each `D`.
+fn in_steps(alloc: Global, lines: &[&str], steps: &str, count: u32) -> Result<Vec<u8>, Fail> {
+    let mut text = Vec::new(alloc);
+    for line in lines.iter().copied() {
+        if line != "D" {
+            push_lines(&mut text, &[line])?;
+            continue;
+        }
+        for _step in 0..count {
+            push_lines(&mut text, &[steps])?;
+        }
+    }
+    Ok(text)
+}
+
+#[test]
+fn steps_print_what_a_drain_prints(rt: HostRuntime) -> Result<(), Fail> {
+    for lines in [ONE_BLOCK, TWO_BLOCKS] {
+        let drained = replay(rt.alloc(), &text_of(rt.alloc(), &lines)?, &[])?;
+        for (steps, count) in [("S 1", 8), ("S 2", 4), ("S 8", 1), ("S 1000", 1)] {
+            let ran = replay(
+                rt.alloc(),
+                &in_steps(rt.alloc(), &lines, steps, count)?,
+                &[],
+            )?;
+            assert!(rt; ran.is_served(), "{steps}");
+            assert!(rt; drained.text.starts_with(&ran.text), "{steps}");
+            assert!(rt; !SERVES_ALL || drained.lines() == ran.lines(), "{steps}");
+        }
+        for count in 0..4u32 {
+            let ran = replay(
+                rt.alloc(),
+                &in_steps(rt.alloc(), &lines, "S 1", count)?,
+                &[],
+            )?;
+            assert!(rt; ran.is_sound(), "{count} steps");
+        }
+    }
+    Ok(())
+}
+
+#[test]
+fn each_call_of_the_chip_fails(rt: HostRuntime) -> Result<(), Fail> {
+    let printed = text_of(rt.alloc(), &BEHIND_PRINTED)?;
+    for (lines, calls) in [(ONE_BLOCK, 2), (TWO_BLOCKS, 4u64)] {
+        let mut trace = text_of(rt.alloc(), &lines)?;
+        push_lines(&mut trace, &BEHIND)?;
+        for call in 1..=calls {
+            let ran = replay(rt.alloc(), &trace, &[call])?;
+            let verdict = ran.verdict;
+            assert!(rt; ran.is_served(), "call {call}: {verdict:?}");
+            if ran.status == Status::Done {
+                assert!(rt; ran.text.contains(&b'!'), "call {call}");
+                assert!(rt; ran.text.ends_with(&printed), "call {call}");
+            }
+        }
+    }
+    Ok(())
+}
+
+/// Whether a trace is served, and prints so many lines where all of it is.
+fn prints(alloc: Global, trace: &[u8], lines: usize) -> Result<bool, Fail> {
+    let ran = replay(alloc, trace, &[])?;
+    Ok(ran.is_served() && (ran.status != Status::Done || ran.lines() == lines))
+}
+
+#[test]
+fn tasks_that_have_no_room_are_refused(rt: HostRuntime) -> Result<(), Fail> {
+    let mut trace = Vec::new(rt.alloc());
+    for tag in 0..33u8 {
+        let words = format!(in rt.alloc(); "U 014000{tag:02x} z z 00001000 28000000 z 01000000 z")?;
+        push_lines(&mut trace, &[words.as_str()])?;
+    }
+    push_lines(&mut trace, &["D"])?;
+    // 33 commands, TASK SET FULL for the last, and a block and GOOD for each other.
+    assert!(rt; prints(rt.alloc(), &trace, 98)?);
+    Ok(())
+}
+
+#[test]
+fn a_tag_names_one_task(rt: HostRuntime) -> Result<(), Fail> {
+    let [write, drain, data, _, read, _] = ONE_BLOCK;
+    let same = "U 01400002 z z 00001000 28000000 z 01000000 z";
+    for (lines, printed) in [
+        ([read, read, drain, read, drain].as_slice(), 8),
+        (&[write, same, drain, data, same, drain, same, drain], 11),
+    ] {
+        let trace = text_of(rt.alloc(), lines)?;
+        assert!(rt; prints(rt.alloc(), &trace, printed)?, "{printed} lines");
+    }
+    Ok(())
+}
+
+#[test]
+fn data_that_are_not_as_asked_do_no_harm(rt: HostRuntime) -> Result<(), Fail> {
+    for wrong in [
+        // Another tag, and another unit.
+        "U 02000003 z 00001000 z 00001000 z z z block",
+        "U 02000102 z 00001000 z 00001000 z z z block",
+        // Other offsets.
+        "U 02000002 z 00001000 00000001 00001000 z z z block",
+        "U 02000002 z 00001000 00001000 00001000 z z z block",
+        "U 02000002 z 00001000 ffffffff 00001000 z z z block",
+        "U 02000002 z 00001000 fffff000 00001000 z z z block",
+        // Other counts.
+        "U 02000002 z 00001000 z z z z z block",
+        "U 02000002 z 00001000 z 00000fff z z z block",
+        "U 02000002 z 00001000 z 00001001 z z z block",
+        "U 02000002 z 00001000 z ffffffff z z z block",
+        // No bytes, a part, and more than was asked for.
+        "U 02000002 z z z z z z z",
+        "U 02000002 z 00000004 z 00000004 z z z a5a5a5a5",
+        "U 02000002 z 00002000 z 00002000 z z z block block",
+        "U 02000002 z 00001004 z 00001004 z z z block a5a5a5a5",
+    ] {
+        for steps in ["D", "#"] {
+            let [write, drain, data, _, read, _] = ONE_BLOCK;
+            let mut trace = text_of(rt.alloc(), &[write, drain, wrong, steps, data, steps])?;
+            push_lines(&mut trace, &[read, drain])?;
+            push_lines(&mut trace, &BEHIND)?;
+            assert!(rt;
+                replay(rt.alloc(), &trace, &[])?.is_served(),
+                "{wrong} {steps}"
+            );
+        }
+    }
+    Ok(())
+}
+
+/// Adds DATA OUT with so many bytes, from an offset on.
+fn push_data(
+    text: &mut Vec<u8>,
+    alloc: Global,
+    tag: u8,
+    offset: u32,
+    count: u16,
+) -> Result<(), Fail> {
+    let words = format!(in alloc;
+        "U 020000{tag:02x} z 0000{count:04x} {offset:08x} 0000{count:04x} z z z"
+    )?;
+    push_words(text, words.as_str())?;
+    for _byte in 0..count {
+        text.extend_from_slice(b"a5")?;
+    }
+    for _byte in 0..(4 - count % 4) % 4 {
+        text.extend_from_slice(b"00")?;
+    }
+    text.push(b'\n')?;
+    Ok(())
+}
+
+#[test]
+fn data_come_in_pieces(rt: HostRuntime) -> Result<(), Fail> {
+    let [write, drain, _, _, read, _] = TWO_BLOCKS;
+    for (first, second) in [(4096, 4096), (1, 8191), (8191, 1), (4097, 4095), (2, 8190)] {
+        for between in ["D", "#"] {
+            let mut trace = text_of(rt.alloc(), &[write, drain])?;
+            push_data(&mut trace, rt.alloc(), 2, 0, first)?;
+            push_lines(&mut trace, &[between])?;
+            push_data(&mut trace, rt.alloc(), 2, u32::from(first), second)?;
+            push_lines(&mut trace, &[drain, read, drain])?;
+            // Two data, GOOD, and three blocks with theirs.
+            assert!(rt; prints(rt.alloc(), &trace, 10)?, "{first} bytes, {between}");
+        }
+    }
+    Ok(())
+}
+
+#[test]
+fn data_come_in_bursts(rt: HostRuntime) -> Result<(), Fail> {
+    let write = "U 01200002 z z 00011000 2a000000 00030000 11000000 z";
+    let read = "U 01400003 z z 00014000 28000000 z 14000000 z";
+    let mut trace = text_of(rt.alloc(), &[write, "D"])?;
+    for (offset, count) in [(0, 32_768), (32_768, 32_768), (65_536, 4096)] {
+        push_data(&mut trace, rt.alloc(), 2, offset, count)?;
+        push_lines(&mut trace, &["D"])?;
+    }
+    push_lines(&mut trace, &[read, "D"])?;
+    // Three bursts that are asked for, GOOD, and the whole unit with its own.
+    assert!(rt; prints(rt.alloc(), &trace, 30)?);
+    Ok(())
+}
+
+#[test]
+fn each_code_is_answered(rt: HostRuntime) -> Result<(), Fail> {
+    let mut codes = Vec::new(rt.alloc());
+    let mut opcodes = Vec::new(rt.alloc());
+    for code in 0..=255u8 {
+        let words = format!(in rt.alloc(); "U {code:02x}0000{code:02x} z z z z z z z")?;
+        push_lines(&mut codes, &[words.as_str(), "D"])?;
+        let words = format!(in rt.alloc(); "U 010000{code:02x} z z z {code:02x}000000 z z z")?;
+        push_lines(&mut opcodes, &[words.as_str(), "D"])?;
+    }
+    assert!(rt; prints(rt.alloc(), &codes, 512)?);
+    assert!(rt; prints(rt.alloc(), &opcodes, 512)?);
+    Ok(())
+}
+
+/// Numbers that a seed gives.
+#[derive(Drop)]
+struct Dice(u64);
+
+impl Dice {
+    /// A number below this many.
+    fn roll(&mut self, sides: u32) -> u32 {
+        self.0 = self
+            .0
+            .wrapping_mul(6_364_136_223_846_793_005)
+            .wrapping_add(1_442_695_040_888_963_407);
+        let high = (self.0 >> 33) & 0x7FFF_FFFF;
+        (high as u32).checked_rem(sides).unwrap_or(0)
+    }
+
+    /// One of three tags.
+    fn tag(&mut self) -> u8 {
+        (self.roll(3) & 0xFF) as u8
+    }
+}
+
+/// Adds READ(10) or WRITE(10) of some blocks, mostly in the unit and with the expected length.
+fn push_command(
+    text: &mut Vec<u8>,
+    alloc: Global,
+    dice: &mut Dice,
+    opcode: &str,
+    tag: u8,
+    n: u16,
+) -> Result<(), Fail> {
+    let lun = if dice.roll(16) == 0 { 1 } else { 0 };
+    let lba = if dice.roll(8) == 0 {
+        dice.roll(6).saturating_add(16)
+    } else {
+        dice.roll(6)
+    };
+    let expected = match dice.roll(8) {
+        0 => dice.roll(16_384),
+        _ => u32::from(n) * 4096,
+    };
+    let words = format!(in alloc;
+        "U 01000{lun}{tag:02x} z z {expected:08x} {opcode}00{lba:08x}00{n:04x} 00000000000000"
+    )?;
+    push_lines(text, &[words.as_str()])
+}
+
+/// Adds a few lines that a host might send.
+fn push_throw(text: &mut Vec<u8>, alloc: Global, dice: &mut Dice) -> Result<(), Fail> {
+    let tag = dice.tag();
+    let n = (dice.roll(4) & 3) as u16;
+    match dice.roll(8) {
+        0 | 1 => {
+            push_command(text, alloc, dice, "2a", tag, n)?;
+            push_lines(text, &["D"])?;
+            push_data(text, alloc, tag, 0, n * 4096)
+        }
+        2 | 3 => push_command(text, alloc, dice, "28", tag, n),
+        4 => push_data(
+            text,
+            alloc,
+            tag,
+            dice.roll(3).saturating_mul(4096),
+            n * 4096,
+        ),
+        5 => {
+            let opcodes = ["00", "25", "35", "2a", "12"];
+            let opcode = opcodes.get(dice.roll(5) as usize).copied().unwrap_or("00");
+            push_command(text, alloc, dice, opcode, tag, n)
+        }
+        6 => push_lines(text, &["D"]),
+        _ => push_lines(text, &["S 1"]),
+    }
+}
+
+#[test]
+fn storms_leave_sound_transcripts(rt: HostRuntime) -> Result<(), Fail> {
+    for seed in 0..40u64 {
+        let mut dice = Dice(seed);
+        let mut trace = Vec::new(rt.alloc());
+        for _throw in 0..60u32 {
+            push_throw(&mut trace, rt.alloc(), &mut dice)?;
+        }
+        push_lines(&mut trace, &["D"])?;
+        let calls = [seed, seed.wrapping_mul(2), 20, 21, 37];
+        let ran = replay(rt.alloc(), &trace, &calls)?;
+        let verdict = ran.verdict;
+        assert!(rt; ran.is_served(), "seed {seed}: {verdict:?}");
+    }
+    Ok(())
+}

@@ -9,10 +9,7 @@ use std::process::Abort;
 use std::test::Fail;
 
 /// The words of a replay over `CHIP`.
-const WORDS: [&str; 1] = ["replay"];
-
-/// Whether a replay serves the bytes of each `U` line, and lines of steps. Where it doesn't, a run may end at such a line.
-const SERVES_ALL: bool = false;
+const WORDS: [&str; 5] = ["replay", "--blocks", "8", "--pages", "4"];
 
 /// A chip whose unit has 20 blocks.
 const CHIP: Geometry = Geometry {
@@ -98,7 +95,6 @@ impl Ran {
     fn is_served(&self) -> bool {
         match self.status {
             Status::Done => self.verdict == Verdict::Sound { rests: true },
-            Status::BadLine(_) => !SERVES_ALL && self.is_sound(),
             _ => false,
         }
     }
@@ -186,7 +182,7 @@ fn is_end_of(status: Status, cut: &[u8]) -> bool {
     let lines = cut.iter().filter(|byte| **byte == b'\n').count();
     match status {
         Status::Done => true,
-        Status::BadLine(number) => !SERVES_ALL || number as usize == lines.saturating_add(1),
+        Status::BadLine(number) => number as usize == lines.saturating_add(1),
         _ => false,
     }
 }
@@ -242,7 +238,7 @@ fn steps_print_what_a_drain_prints(rt: HostRuntime) -> Result<(), Fail> {
             )?;
             assert!(rt; ran.is_served(), "{steps}");
             assert!(rt; drained.text.starts_with(&ran.text), "{steps}");
-            assert!(rt; !SERVES_ALL || drained.lines() == ran.lines(), "{steps}");
+            assert_eq!(rt; drained.lines(), ran.lines(), "{steps}");
         }
         for count in 0..4u32 {
             let ran = replay(

@@ -21,6 +21,8 @@ mod oracle;
 #[cfg(test)]
 mod queue_tests;
 #[cfg(test)]
+mod row_tests;
+#[cfg(test)]
 mod tests;
 #[cfg(test)]
 mod texts;

@@ -147,7 +147,7 @@ pub struct Outside {
     cuts: Vec<u64>,
     reads: Vec<u64>,
     writes: Vec<u64>,
-    calls: Vec<u64>,
+    pub calls: Vec<u64>,
     room: usize,
 }
 

@@ -1,40 +1,192 @@
 -- What a task is whose command is known.
-use Rattle.std.proofs.Common.{◌≡◌, ◌⊎◌, ℕ, ◌+◌, ◌*◌, ◌%◌, ◌^◌, ◌<◌, ◌≤◌, List, [], ◌∷◌, drop, Some, None, refl, subst, ap, arith, inl, inr}
+use Rattle.std.specs.Prelude.{if◌then◌else◌}
+use Rattle.std.proofs.lemmas.Bool.{false≢true}
+use Rattle.std.proofs.lemmas.Bool.Decides.{nat_tests}
+use Rattle.std.proofs.Common.{◌≡◌, ◌⊎◌, ◌∙◌, Bool, true, false, not, ◌&&◌, ◌==◌, ◌-◌, nat_lt, min, ℕ, ◌+◌, ◌*◌, ◌%◌, ◌^◌, ◌<◌, ◌≤◌, List, [], ◌∷◌, drop, Some, None, refl, subst, ap, arith, inl, inr}
 use Rattle.flash_pages.specs.declared.chip.TheConstants.{BLOCK_BYTES}
-use Rattle.hpb_cdb.specs.declared.cdb.Cdb.TheVariants.{Read, Write}
+use Rattle.hpb_cdb.specs.declared.cdb.Cdb.{Cdb}
+use Rattle.hpb_cdb.specs.declared.cdb.Cdb.TheVariants.{TestReady, Read, Write, Capacity, Sync, HpbRead, ReadBuffer, Prefetch, InactOne, InactAll}
+use Rattle.hpb_cdb.specs.declared.limits.Limits.{Limits}
 use Rattle.hpb_device.specs.declared.task.Task.{Task}
 use Rattle.upiu_wire.specs.Upiu.{Upiu}
 use Rattle.hpb_device.specs.declared.reply.Reply.{Reply}
 use Rattle.hpb_device.specs.declared.reply.Reply.TheVariants.{Check}
 use Rattle.hpb_device.specs.declared.reply.Cause.TheVariants.{DataNotAsked}
 use Rattle.hpb_device.specs.Accept.{EndsFirst, IsNextPiece, TakesPiece}
-use Rattle.hpb_device.specs.Task.{WaitsForData, head_of, IsTaskOk, IsServed, bytes_given, bytes_taken}
-use Rattle.hpb_device.specs.Advance.{first_block}
+use Rattle.hpb_device.specs.Task.{WaitsForData, head_of, IsTaskOk, IsServed, HasTried, bytes_given, bytes_taken, steps_of, tries_entry, tries_entry_of}
+use Rattle.hpb_device.specs.Advance.{ReadsBlocks, first_block}
 
--- a command that moves so many blocks one way, and none the other
-pub record Moves (units : ℕ) (task : Task) (lba given taken : ℕ) : Type 0 where
-  pub range : lba + given + taken < 2 ^ 32
-  pub within : lba + given + taken ≤ units
+-- a write of so many blocks
+pub record Writes (lim : Limits) (task : Task) (lba n : ℕ) : Type 0 where
+  pub range : lba + n < 2 ^ 32
+  pub within : lba + n ≤ lim.units
   pub first : first_block task.command ≡ lba
-  pub gives : bytes_given task.command ≡ BLOCK_BYTES * given
-  pub takes : bytes_taken task.command ≡ BLOCK_BYTES * taken
+  pub gives : task.given ≡ 0
+  pub takes : bytes_taken task.command ≡ BLOCK_BYTES * n
+  pub none_sent : task.sent ≡ 0
+  pub untried : tries_entry task ≡ false
+
+pub writes : (luns : ℕ) (lim : Limits) (lba n : ℕ) (task : Task) → IsTaskOk luns lim task → task.command ≡ Write lba n → Writes lim task lba n
+writes luns lim lba n task ok is =
+    let range : lba + n ≤ lim.units = subst (IsServed lim) is ok.served in
+    let gives : task.given ≡ 0 = ok.given ∙ ap (bytes_given lim) is in
+    record {
+      range = omega (arith, ok.few_blocks, range);
+      within = range;
+      first = ap first_block is;
+      gives = gives;
+      takes = ap bytes_taken is;
+      none_sent = omega (arith, ok.sent, gives);
+      untried = ap (λ (c : Cdb). tries_entry_of c task) is;
+    }
+
+-- a read of so many blocks
+pub record Reads (lim : Limits) (task : Task) : Type 0 where
+  pub n : ℕ
+  pub range : first_block task.command + n < 2 ^ 32
+  pub within : first_block task.command + n ≤ lim.units
+  pub gives : task.given ≡ BLOCK_BYTES * n
+  pub takes : bytes_taken task.command ≡ 0
   pub whole : task.sent % BLOCK_BYTES ≡ 0
 
-pub reads : (luns units lba n : ℕ) (task : Task) → IsTaskOk luns units task → task.command ≡ Read lba n → Moves units task lba n 0
-reads luns units lba n task ok is =
-    let range : lba + n ≤ units = subst (IsServed units) is ok.served in
-    let given : bytes_given task.command ≡ 4096 * n = ap bytes_given is in
+reads_by : (lim : Limits) (command : Cdb) → ReadsBlocks command → IsServed lim command
+    → (n : ℕ) × (bytes_given lim command ≡ 4096 * n) × (first_block command + n ≤ lim.units) × (bytes_taken command ≡ 0)
+reads_by lim (Read lba n) is served = (n, refl, served, refl)
+reads_by lim (HpbRead lba entry n id) is served = (n, refl, served, refl)
+reads_by lim TestReady is served = absurd is
+reads_by lim (Write lba n) is served = absurd is
+reads_by lim Capacity is served = absurd is
+reads_by lim (Sync lba n) is served = absurd is
+reads_by lim (ReadBuffer region sub len) is served = absurd is
+reads_by lim (Prefetch lba id len) is served = absurd is
+reads_by lim (InactOne region) is served = absurd is
+reads_by lim InactAll is served = absurd is
+
+pub reads : (luns : ℕ) (lim : Limits) (task : Task) → IsTaskOk luns lim task → ReadsBlocks task.command → Reads lim task
+reads luns lim task ok is =
+    let by = reads_by lim task.command is ok.served in
+    let given : task.given ≡ 4096 * by.0 = ok.given ∙ by.1 in
     let whole : task.sent % 4096 ≡ 0 = elim ok.whole_sent [
       | inl part ↦ part
       | inr all ↦ omega (arith, all, given)
     ] in
-    record { range = omega (arith, ok.few_blocks); within = omega arith; first = ap first_block is; gives = given; takes = ap bytes_taken is; whole = whole }
+    record { n = by.0; range = omega (arith, ok.few_blocks, by.2); within = by.2; gives = given; takes = by.3; whole = whole }
 
-pub writes : (luns units lba n : ℕ) (task : Task) → IsTaskOk luns units task → task.command ≡ Write lba n → Moves units task lba 0 n
-writes luns units lba n task ok is =
-    let range : lba + n ≤ units = subst (IsServed units) is ok.served in
-    let given : bytes_given task.command ≡ 0 = ap bytes_given is in
-    record { range = omega (arith, ok.few_blocks); within = omega arith; first = ap first_block is; gives = given; takes = ap bytes_taken is; whole = omega (arith, ok.sent, given) }
+-- a command that has an entry to try reads a block, and has sent none
+pub record Tries (lim : Limits) (command : Cdb) (task : Task) : Type 0 where
+  pub reads : ReadsBlocks command
+  pub none_sent : task.sent ≡ 0
+  pub some : 0 < bytes_given lim command
+  pub untried : HasTried command task
+
+both : (a b : Bool) → (a && b) ≡ true → (a ≡ true) × (b ≡ true)
+both true b is = (refl, is)
+both false b is = absurd (false≢true is)
+
+pub tries_of : (lim : Limits) (command : Cdb) (task : Task) → tries_entry_of command task ≡ true → Tries lim command task
+tries_of lim (HpbRead lba entry n id) task is =
+    let at = both (task.sent == 0) (nat_lt 0 n && not task.tried) is in
+    let more = both (nat_lt 0 n) (not task.tried) at.1 in
+    let none : task.sent ≡ 0 = grind (arith, nat_tests, at.0) in
+    let some : 0 < n = grind (arith, nat_tests, more.0) in
+    record { reads = tt; none_sent = none; some = omega (arith, some); untried = none }
+tries_of lim TestReady task is = absurd (false≢true is)
+tries_of lim (Read lba n) task is = absurd (false≢true is)
+tries_of lim (Write lba n) task is = absurd (false≢true is)
+tries_of lim Capacity task is = absurd (false≢true is)
+tries_of lim (Sync lba n) task is = absurd (false≢true is)
+tries_of lim (ReadBuffer region sub len) task is = absurd (false≢true is)
+tries_of lim (Prefetch lba id len) task is = absurd (false≢true is)
+tries_of lim (InactOne region) task is = absurd (false≢true is)
+tries_of lim InactAll task is = absurd (false≢true is)
+
+no_tries : (command : Cdb) (task : Task) → (task.sent == 0) && not task.tried ≡ false → tries_entry_of command task ≡ false
+no_tries (HpbRead lba entry n id) task is = swap (task.sent == 0) (nat_lt 0 n) (not task.tried) is
+  where
+    swap : (a b c : Bool) → (a && c) ≡ false → (a && (b && c)) ≡ false
+    swap false b c is = refl
+    swap true true c is = is
+    swap true false c is = refl
+no_tries TestReady task is = refl
+no_tries (Read lba n) task is = refl
+no_tries (Write lba n) task is = refl
+no_tries Capacity task is = refl
+no_tries (Sync lba n) task is = refl
+no_tries (ReadBuffer region sub len) task is = refl
+no_tries (Prefetch lba id len) task is = refl
+no_tries (InactOne region) task is = refl
+no_tries InactAll task is = refl
+
+one_at_most : (b : Bool) → 0 ≤ (if b then 1 else 0)
+one_at_most b = omega arith
+
+-- after one more block
+pub block_ok : (luns : ℕ) (lim : Limits) (task : Task) → IsTaskOk luns lim task → ReadsBlocks task.command → task.sent < task.given → IsTaskOk luns lim (record task { sent = task.sent + 4096; tried = false })
+block_ok luns lim task ok is more =
+    let r = reads luns lim task ok is in
+    record {
+      lun = ok.lun;
+      served = ok.served;
+      few_blocks = ok.few_blocks;
+      expected_fits = ok.expected_fits;
+      given = ok.given;
+      fits = ok.fits;
+      asked = ok.asked;
+      whole_asked = ok.whole_asked;
+      come = ok.come;
+      programmed = ok.programmed;
+      sent = omega (arith, more, r.gives, r.whole);
+      whole_sent = inl (omega (arith, r.whole));
+      tried = tt;
+    }
+
+pub block_fewer : (luns : ℕ) (lim : Limits) (task : Task) → IsTaskOk luns lim task → ReadsBlocks task.command → task.sent < task.given
+    → steps_of lim (record task { sent = task.sent + 4096; tried = false }) < steps_of lim task
+block_fewer luns lim task ok is more =
+    let r = reads luns lim task ok is in
+    let later : ((task.sent + 4096) == 0) ≡ false = grind (arith, nat_tests) in
+    let none = no_tries task.command (record task { sent = task.sent + 4096; tried = false }) (ap (λ (b : Bool). b && true) later) in
+    let some = one_at_most (tries_entry task) in
+    rw none (omega (arith, more, r.gives, r.whole, ok.given, some))
+
+-- after an entry that was tried in vain
+pub missed_ok : (luns : ℕ) (lim : Limits) (task : Task) → IsTaskOk luns lim task → tries_entry task ≡ true → IsTaskOk luns lim (record task { tried = true })
+missed_ok luns lim task ok is = record {
+  lun = ok.lun;
+  served = ok.served;
+  few_blocks = ok.few_blocks;
+  expected_fits = ok.expected_fits;
+  given = ok.given;
+  fits = ok.fits;
+  asked = ok.asked;
+  whole_asked = ok.whole_asked;
+  come = ok.come;
+  programmed = ok.programmed;
+  sent = ok.sent;
+  whole_sent = ok.whole_sent;
+  tried = untried task.command (tries_of lim task.command task is).untried;
+}
+  where
+    untried : (command : Cdb) → HasTried command task → HasTried command (record task { tried = true })
+    untried (HpbRead lba entry n id) none = none
+    untried TestReady none = none
+    untried (Read lba n) none = none
+    untried (Write lba n) none = none
+    untried Capacity none = none
+    untried (Sync lba n) none = none
+    untried (ReadBuffer region sub len) none = none
+    untried (Prefetch lba id len) none = none
+    untried (InactOne region) none = none
+    untried InactAll none = none
+
+pub missed_fewer : (lim : Limits) (task : Task) → tries_entry task ≡ true → steps_of lim (record task { tried = true }) < steps_of lim task
+missed_fewer lim task is =
+    let none = no_tries task.command (record task { tried = true }) (and_false (task.sent == 0)) in
+    rw (none, is) (omega arith)
+  where
+    and_false : (a : Bool) → (a && false) ≡ false
+    and_false true = refl
+    and_false false = refl
 
 -- data that end a task came where it waited for others
 pub ends : (tasks : List Task) (reply : Reply) → EndsFirst tasks reply
@@ -55,3 +207,11 @@ first_of (head ∷ others) task is = let same : head ≡ task = cc in ap (λ (t 
 pub none_of : (tasks : List Task) → head_of tasks ≡ None → tasks ≡ []
 none_of [] is = refl
 none_of (head ∷ others) is = cc
+
+-- a piece of a list is a whole block of it, or its last one
+pub listed_whole : (sent given count : ℕ) → sent % 4096 ≡ 0 → sent < given → count ≡ min 4096 (given - sent) → ((sent + count) % 4096 ≡ 0) ⊎ (sent + count ≡ given)
+listed_whole sent given count part more counted = by_size (nat_lt (given - sent) 4096) refl
+  where
+    by_size : (b : Bool) → nat_lt (given - sent) 4096 ≡ b → ((sent + count) % 4096 ≡ 0) ⊎ (sent + count ≡ given)
+    by_size true is = let less : given - sent < 4096 = grind (arith, nat_tests, is) in inr (omega (arith, less, more, counted))
+    by_size false is = let most : 4096 ≤ given - sent = grind (arith, nat_tests, is) in inl (omega (arith, most, part, counted))

@@ -1,12 +1,15 @@
 -- What a step of a device tells, and where it leaves the device, whatever its command.
-use Rattle.std.proofs.Common.{◌≡◌, ℕ, ◌+◌, ◌-◌, ◌*◌, ◌/◌, ◌<◌, ◌≤◌, true, false, nat_lt, List, [], ◌∷◌, ◌++◌, map, Option, Some, None, refl, sym, ◌∙◌, ap, subst, arith, inl, inr}
+use Rattle.std.proofs.Common.{◌≡◌, ◌⊎◌, ℕ, ◌+◌, ◌-◌, ◌*◌, ◌/◌, ◌<◌, ◌≤◌, ◌==◌, Bool, true, false, not, ◌&&◌, nat_lt, min, take, List, [], ◌∷◌, ◌++◌, map, Option, Some, None, refl, sym, ◌∙◌, ap, subst, arith, inl, inr}
 use Rattle.std.proofs.lemmas.Bool.{false≢true}
 use Rattle.std.proofs.Math.Nat.{mul-le-mul_right, mul_assoc}
 use Rattle.std.proofs.lemmas.Bool.Decides.{nat_tests}
-use Rattle.std.specs.Prelude.{sum_by}
+use Rattle.std.specs.Prelude.{sum_by, if◌then◌else◌}
 use Rattle.std.proofs.lemmas.List.Sums.{sum_by-cons, sum_by_push}
 use Rattle.flash_pages.specs.declared.chip.ChipOp.{ChipOp}
 use Rattle.hpb_cdb.specs.declared.cdb.Cdb.{Cdb}
+use Rattle.hpb_cdb.specs.declared.limits.Limits.{Limits}
+use Rattle.flash_pages.specs.declared.chip.Geometry.{Geometry}
+use Rattle.hpb_device.specs.Sizes.{sizes}
 use Rattle.hpb_cdb.specs.declared.cdb.Cdb.TheVariants.{TestReady, Read, Write, Capacity, Sync, HpbRead, ReadBuffer, Prefetch, InactOne, InactAll}
 use Rattle.upiu_wire.specs.Upiu.{upiu_at, upiu_out}
 use Rattle.upiu_wire.specs.Kind.{kind_of}
@@ -27,23 +30,27 @@ use Rattle.flat_unit.specs.Task.{Task as Waiting}
 use Rattle.flat_unit.proofs.Steps.{stands_begun}
 use Rattle.flash_pages.specs.Unit.{unit_of, next_seq}
 use Rattle.hpb_device.specs.declared.advance.Progress.{Progress}
-use Rattle.hpb_device.specs.declared.advance.Progress.TheVariants.{Shown, Told, Asked, Programmed, Ended, Failed}
+use Rattle.hpb_device.specs.declared.advance.Progress.TheVariants.{Shown, Found, Missed, Listed, Told, Asked, Programmed, Ended, Failed}
 use Rattle.hpb_device.specs.declared.device.Stepped.{Stepped}
 use Rattle.hpb_device.specs.declared.task.Task.{Task}
-use Rattle.hpb_device.specs.Advance.{Advances, capacity_of, failure_of}
+use Rattle.hpb_device.specs.Advance.{Advances, capacity_of, entries_of, failure_of, first_listed}
+use Rattle.hpb_device.specs.Limits.{limits_of}
 use Rattle.hpb_device.specs.Calls.{GoesOn, Leaves, stepped}
 use Rattle.hpb_device.specs.Keeps.{KeepsTasks, IsTaskOf, waiting_of}
 use Rattle.hpb_device.specs.Standing.{DeviceStands, first_of, group_of, kept_of, programmed_of, sizes_of}
 use Rattle.hpb_device.specs.State.{DeviceState, AreAtRest, AtRest, steps_left}
-use Rattle.hpb_device.specs.Task.{IsTaskOk, bytes_given, bytes_taken, steps_of}
+use Rattle.hpb_device.specs.Task.{IsTaskOk, bytes_given, bytes_taken, steps_of, tries_entry, tries_entry_of}
 use Rattle.hpb_device.proofs.Leaving.{some_left}
 use Rattle.hpb_device.proofs.Stepping.{is_written, sizes_same}
 
 -- a call failed only where the count of faults rose
 fails_by : (old new : DeviceState) (task : Task) (others : List Task) (progress : Progress) (result : Stepped) (out : List ℕ) → old.store.faults ≤ new.store.faults
-    → Advances old.store new.store old.held new.held task progress out → Leaves progress others new.tasks new.held result out
+    → Advances (limits_of old.shape) old.store new.store old.held new.held task progress out → Leaves progress others new.tasks new.held result out
     → FailuresWithin old.store.faults new.store.faults (followed_by [] (events_of (group_of result out)))
 fails_by old new task others (Shown rest) result out later advances leaves = rw (leaves.1) (omega (arith, later))
+fails_by old new task others (Found rest) result out later advances leaves = rw (leaves.1) (omega (arith, later))
+fails_by old new task others (Missed rest) result out later advances leaves = rw (leaves.1) (omega (arith, later))
+fails_by old new task others (Listed rest) result out later advances leaves = rw (leaves.1) (omega (arith, later))
 fails_by old new task others (Told rest) result out later advances leaves = rw (leaves.1) (omega (arith, later))
 fails_by old new task others (Asked rest) result out later advances leaves = rw (leaves.1) (omega (arith, later))
 fails_by old new task others (Programmed rest) result out later advances leaves = rw (leaves.1) (omega (arith, later))
@@ -57,6 +64,9 @@ going_fails old new result out goes = fails_by old new goes.task goes.others goe
 -- no block is moved
 moves_by : (progress : Progress) (others tasks : List Task) (held : List ℕ) (result : Stepped) (out : List ℕ) → Leaves progress others tasks held result out → result.moved ≡ None
 moves_by (Shown rest) others tasks held result out leaves = ap (λ (r : Stepped). r.moved) leaves.1
+moves_by (Found rest) others tasks held result out leaves = ap (λ (r : Stepped). r.moved) leaves.1
+moves_by (Missed rest) others tasks held result out leaves = ap (λ (r : Stepped). r.moved) leaves.1
+moves_by (Listed rest) others tasks held result out leaves = ap (λ (r : Stepped). r.moved) leaves.1
 moves_by (Told rest) others tasks held result out leaves = ap (λ (r : Stepped). r.moved) leaves.1
 moves_by (Asked rest) others tasks held result out leaves = ap (λ (r : Stepped). r.moved) leaves.1
 moves_by (Programmed rest) others tasks held result out leaves = ap (λ (r : Stepped). r.moved) leaves.1
@@ -70,9 +80,9 @@ going_moves_none old new result out goes = moves_by goes.progress goes.others ne
 pub going_sizes : (old new : DeviceState) (result : Stepped) (out : List ℕ) → GoesOn old new result out → new.shape ≡ old.shape → sizes_of new ≡ sizes_of old
 going_sizes old new result out goes shape = sym (sizes_same old new goes.same shape)
 
--- a step that sends nothing programs a block of a write that has asked for data
-has_asked_data : (held : List ℕ) (luns units : ℕ) (kept : Task) (task : Waiting) (others : List Waiting) → IsTaskOf held kept task → IsTaskOk luns units kept → 4096 * kept.programmed < kept.come → has_asked (task ∷ others) ≡ true
-has_asked_data held luns units kept task others at ok more =
+-- a step that sends nothing programs a block of a write that has asked for data, or tries an entry for the first time
+has_asked_data : (held : List ℕ) (luns : ℕ) (lim : Limits) (kept : Task) (task : Waiting) (others : List Waiting) → IsTaskOf held kept task → IsTaskOk luns lim kept → 4096 * kept.programmed < kept.come → has_asked (task ∷ others) ≡ true
+has_asked_data held luns lim kept task others at ok more =
     let write = is_written kept.command kept.programmed (omega (arith, ok.asked, ok.come, more)) in
     let asked : nat_lt 0 kept.asked ≡ true = grind (arith, nat_tests, ok.come, more) in
     rw (at.command, write.2, at.asked, asked) refl
@@ -80,17 +90,22 @@ has_asked_data held luns units kept task others at ok more =
 sent_or_silent : (result : Stepped) (failed : Option ChipOp) → result ≡ stepped failed true → result.sent ≡ false → ⊥
 sent_or_silent result failed is silent = false≢true (sym silent ∙ ap (λ (r : Stepped). r.sent) is)
 
-silent_by : (old new : DeviceState) (task : Task) (others : List Task) (progress : Progress) (result : Stepped) (out : List ℕ) (tasks : List Waiting) → IsTaskOk old.store.luns old.shape.units task
-    → Advances old.store new.store old.held new.held task progress out → Leaves progress others new.tasks new.held result out → KeepsTasks (task ∷ others) old.held tasks → result.sent ≡ false → has_asked tasks ≡ true
+silent_by : (old new : DeviceState) (task : Task) (others : List Task) (progress : Progress) (result : Stepped) (out : List ℕ) (tasks : List Waiting) → IsTaskOk old.store.luns (limits_of old.shape) task
+    → Advances (limits_of old.shape) old.store new.store old.held new.held task progress out → Leaves progress others new.tasks new.held result out → KeepsTasks (task ∷ others) old.held tasks → result.sent ≡ false
+    → (has_asked tasks ≡ true) ⊎ (tries_entry task ≡ true)
 silent_by old new task others (Shown rest) result out tasks ok advances leaves keeps silent = absurd (sent_or_silent result _ leaves.1 silent)
+silent_by old new task others (Found rest) result out tasks ok advances leaves keeps silent = absurd (sent_or_silent result _ leaves.1 silent)
+silent_by old new task others (Missed rest) result out tasks ok advances leaves keeps silent = inr advances.0.tries
+silent_by old new task others (Listed rest) result out tasks ok advances leaves keeps silent = absurd (sent_or_silent result _ leaves.1 silent)
 silent_by old new task others (Told rest) result out tasks ok advances leaves keeps silent = absurd (sent_or_silent result _ leaves.1 silent)
 silent_by old new task others (Asked rest) result out tasks ok advances leaves keeps silent = absurd (sent_or_silent result _ leaves.1 silent)
 silent_by old new task others (Programmed rest) result out tasks ok advances leaves keeps silent =
-    subst (λ (ts : List Waiting). has_asked ts ≡ true) (sym keeps.2) (has_asked_data old.held old.store.luns old.shape.units task keeps.0 (map waiting_of others) keeps.1 ok advances.1.more)
+    inl (subst (λ (ts : List Waiting). has_asked ts ≡ true) (sym keeps.2) (has_asked_data old.held old.store.luns (limits_of old.shape) task keeps.0 (map waiting_of others) keeps.1 ok advances.1.more))
 silent_by old new task others (Ended reply) result out tasks ok advances leaves keeps silent = absurd (sent_or_silent result _ leaves.2 silent)
 silent_by old new task others (Failed op reply) result out tasks ok advances leaves keeps silent = absurd (sent_or_silent result _ leaves.2 silent)
 
-pub going_is_silent : (old new : DeviceState) (result : Stepped) (out : List ℕ) (tasks : List Waiting) → GoesOn old new result out → KeepsTasks old.tasks old.held tasks → result.sent ≡ false → has_asked tasks ≡ true
+pub going_is_silent : (old new : DeviceState) (result : Stepped) (out : List ℕ) (tasks : List Waiting) → (goes : GoesOn old new result out) → KeepsTasks old.tasks old.held tasks → result.sent ≡ false
+    → (has_asked tasks ≡ true) ⊎ (tries_entry goes.task ≡ true)
 going_is_silent old new result out tasks goes keeps silent =
     silent_by old new goes.task goes.others goes.progress result out tasks goes.ok goes.advances goes.leaves (subst (λ (ts : List Task). KeepsTasks ts old.held tasks) goes.was keeps) silent
 
@@ -114,32 +129,46 @@ pub resting_tasks : (device : DeviceState) (tasks : List Waiting) → KeepsTasks
 resting_tasks device tasks keeps rests = rests_by device.tasks device.held tasks keeps rests
 
 -- a device that can go on has a step left
-left_by : (kept : List Task) → (AreAtRest kept → ⊥) → 1 ≤ sum_by steps_of kept
-left_by [] going = absurd (going tt)
-left_by (head ∷ others) going =
-    let all = sum_by-cons steps_of head others in
-    let some = some_left head in
+left_by : (lim : Limits) (kept : List Task) → (AreAtRest kept → ⊥) → 1 ≤ sum_by (steps_of lim) kept
+left_by lim [] going = absurd (going tt)
+left_by lim (head ∷ others) going =
+    let all = sum_by-cons (steps_of lim) head others in
+    let some = some_left lim head in
     omega (arith, all, some)
 
 pub going_left : (device : DeviceState) → (AtRest device → ⊥) → 1 ≤ steps_left device
-going_left device going = left_by device.tasks going
+going_left device going = left_by (limits_of device.shape) device.tasks going
 
 -- no more steps are left than the tasks need
-few_for : (s : Sizes) (task : Task) (command : Cdb) → 1 ≤ s.erase_block
-    → (bytes_given command - task.sent + 4095) / 4096 + (bytes_taken command - task.asked) / 4096 + (bytes_taken command - 4096 * task.programmed) / 4096 + 1 ≤ bound s command
-few_for s task (Read lba n) some = omega arith
-few_for s task (Write lba n) some = let e : 1 * n ≤ s.erase_block * n = mul-le-mul_right n some in let f : 2 * s.erase_block * n ≡ 2 * (s.erase_block * n) = mul_assoc 2 s.erase_block n in omega (arith, e, f)
-few_for s task TestReady some = omega arith
-few_for s task Capacity some = omega arith
-few_for s task (Sync lba n) some = omega arith
-few_for s task (HpbRead lba entry n id) some = omega arith
-few_for s task (ReadBuffer region sub len) some = omega arith
-few_for s task (Prefetch lba id len) some = omega arith
-few_for s task (InactOne region) some = omega arith
-few_for s task InactAll some = omega arith
+at_most_one : (b : Bool) → (if b then 1 else 0) ≤ 1
+at_most_one true = omega arith
+at_most_one false = omega arith
 
-pub few_of : (s : Sizes) (task : Task) → 1 ≤ s.erase_block → steps_of task ≤ bound s task.command
-few_of s task some = few_for s task task.command some
+few_for : (luns : ℕ) (lim : Limits) (geometry : Geometry) (task : Task) (command : Cdb) → 1 ≤ geometry.pages
+    → (bytes_given lim command - task.sent + 4095) / 4096 + (if tries_entry_of command task then 1 else 0) + (bytes_taken command - task.asked) / 4096 + (bytes_taken command - 4096 * task.programmed) / 4096 + 1 ≤ bound (sizes luns lim geometry) command
+few_for luns lim geometry task (Read lba n) some = omega arith
+few_for luns lim geometry task (Write lba n) some = let e : 1 * n ≤ geometry.pages * n = mul-le-mul_right n some in let f : 2 * geometry.pages * n ≡ 2 * (geometry.pages * n) = mul_assoc 2 geometry.pages n in omega (arith, e, f)
+few_for luns lim geometry task TestReady some = omega arith
+few_for luns lim geometry task Capacity some = omega arith
+few_for luns lim geometry task (Sync lba n) some = omega arith
+few_for luns lim geometry task (HpbRead lba entry n id) some = one_try (task.sent == 0) (nat_lt 0 n) refl
+  where
+    one_try : (first more : Bool) → nat_lt 0 n ≡ more
+        → (4096 * n - task.sent + 4095) / 4096 + (if first && (more && not task.tried) then 1 else 0) + (0 - task.asked) / 4096 + (0 - 4096 * task.programmed) / 4096 + 1 ≤ 2 * n + 1
+    one_try false more is = omega arith
+    one_try true false is = omega arith
+    one_try true true is =
+        let few = at_most_one (not task.tried) in
+        let some_block : 0 < n = grind (arith, nat_tests, is) in
+        omega (arith, few, some_block)
+few_for luns lim geometry task (ReadBuffer number part len) some =
+    omega arith
+few_for luns lim geometry task (Prefetch lba id len) some = omega arith
+few_for luns lim geometry task (InactOne number) some = omega arith
+few_for luns lim geometry task InactAll some = omega arith
+
+pub few_of : (device : DeviceState) (task : Task) → 1 ≤ device.store.geometry.pages → steps_of (limits_of device.shape) task ≤ bound (sizes_of device) task.command
+few_of device task some = few_for device.store.luns (limits_of device.shape) device.store.geometry task task.command some
 
 -- sums over the tasks of a device and of its history
 sums_waiting : (f : Task → ℕ) (g : Waiting → ℕ) (others : List Task) → ((task : Task) → f task ≤ g (waiting_of task)) → sum_by f others ≤ sum_by g (map waiting_of others)
@@ -159,22 +188,24 @@ sums_first f g head others task each one =
     let right = sum_by-cons g task (map waiting_of others) in
     omega (arith, one, rest, left, right)
 
-few_by : (s : Sizes) (kept : List Task) (held : List ℕ) (tasks : List Waiting) → 1 ≤ s.erase_block → KeepsTasks kept held tasks → sum_by steps_of kept ≤ sum_by (λ (task : Waiting). bound s task.command) tasks
-few_by s [] held tasks some keeps = omega arith
-few_by s (head ∷ others) held tasks some keeps =
-    let g : Waiting → ℕ = λ task. bound s task.command in
-    let same : bound s keeps.0.command ≡ bound s head.command = ap (bound s) keeps.1.command in
-    let first : steps_of head ≤ g keeps.0 = subst (λ (n : ℕ). steps_of head ≤ n) (sym same) (few_of s head some) in
-    subst (λ (ts : List Waiting). sum_by steps_of (head ∷ others) ≤ sum_by g ts) (sym keeps.2) (sums_first steps_of g head others keeps.0 (λ task. few_of s task some) first)
+few_by : (device : DeviceState) (kept : List Task) (held : List ℕ) (tasks : List Waiting) → 1 ≤ device.store.geometry.pages → KeepsTasks kept held tasks
+    → sum_by (steps_of (limits_of device.shape)) kept ≤ sum_by (λ (task : Waiting). bound (sizes_of device) task.command) tasks
+few_by device [] held tasks some keeps = omega arith
+few_by device (head ∷ others) held tasks some keeps =
+    let f : Task → ℕ = steps_of (limits_of device.shape) in
+    let g : Waiting → ℕ = λ task. bound (sizes_of device) task.command in
+    let same : bound (sizes_of device) keeps.0.command ≡ bound (sizes_of device) head.command = ap (bound (sizes_of device)) keeps.1.command in
+    let first : f head ≤ g keeps.0 = subst (λ (n : ℕ). f head ≤ n) (sym same) (few_of device head some) in
+    subst (λ (ts : List Waiting). sum_by f (head ∷ others) ≤ sum_by g ts) (sym keeps.2) (sums_first f g head others keeps.0 (λ task. few_of device task some) first)
 
 pub few_left : (device : DeviceState) (tasks : List Waiting) → 1 ≤ device.store.geometry.pages → KeepsTasks device.tasks device.held tasks → steps_left device ≤ enough (sizes_of device) tasks
-few_left device tasks some keeps = let few = few_by (sizes_of device) device.tasks device.held tasks some keeps in omega (arith, few)
+few_left device tasks some keeps = let few = few_by device device.tasks device.held tasks some keeps in omega (arith, few)
 
 -- a command that is kept adds at most its bound
-pub keeps_left : (device : DeviceState) (task : Task) → 1 ≤ device.store.geometry.pages → sum_by steps_of (device.tasks ++ task ∷ []) ≤ steps_left device + bound (sizes_of device) task.command
+pub keeps_left : (device : DeviceState) (task : Task) → 1 ≤ device.store.geometry.pages → sum_by (steps_of (limits_of device.shape)) (device.tasks ++ task ∷ []) ≤ steps_left device + bound (sizes_of device) task.command
 keeps_left device task some =
-    let few = few_of (sizes_of device) task some in
-    let more = sum_by_push steps_of device.tasks task in
+    let few = few_of device task some in
+    let more = sum_by_push (steps_of (limits_of device.shape)) device.tasks task in
     omega (arith, few, more)
 
 -- a device without a task stands at no events, over the unit that its chip has
@@ -244,9 +275,13 @@ failed_code (InactOne region) same = absurd (omega (arith, same))
 failed_code InactAll same = absurd (omega (arith, same))
 
 -- the code of the UPIU of a step, if it has one, is of a failed call or of a lack of pages
-tells_by : (old new : DeviceState) (task : Task) (others : List Task) (progress : Progress) (result : Stepped) (out : List ℕ) → Advances old.store new.store old.held new.held task progress out → Leaves progress others new.tasks new.held result out
+tells_by : (old new : DeviceState) (task : Task) (others : List Task) (progress : Progress) (result : Stepped) (out : List ℕ) → Advances (limits_of old.shape) old.store new.store old.held new.held task progress out → Leaves progress others new.tasks new.held result out
     → result.sent ≡ true → ¬ (sense_code out ≡ Some 0x44)
-tells_by old new task others (Shown rest) result out advances leaves sends = other_code (sense_code out) (ap sense_code advances.0.sent ∙ data_tells_none _ _ _ _)
+tells_by old new task others (Shown rest) result out advances leaves sends = other_code (sense_code out) (ap sense_code advances.0.sends.sent ∙ data_tells_none _ _ _ _)
+tells_by old new task others (Found rest) result out advances leaves sends = other_code (sense_code out) (ap sense_code advances.0.sends.sent ∙ data_tells_none _ _ _ _)
+tells_by old new task others (Missed rest) result out advances leaves sends = absurd (false≢true (sym (ap (λ (r : Stepped). r.sent) leaves.1) ∙ sends))
+tells_by old new task others (Listed rest) result out advances leaves sends =
+    other_code (sense_code out) (ap sense_code advances.1.sent ∙ data_tells_none task.lun task.tag task.sent (take advances.0 (entries_of old.store.pages task.lun (first_listed (limits_of old.shape) task.command + task.sent / 8) ((advances.0 + 7) / 8))))
 tells_by old new task others (Told rest) result out advances leaves sends = other_code (sense_code out) (ap sense_code advances.0.sent ∙ data_tells_none task.lun task.tag task.sent (capacity_of old.store.units))
 tells_by old new task others (Asked rest) result out advances leaves sends = other_code (sense_code out) (ap sense_code advances.1.sent ∙ transfer_tells_none _ _ _ _)
 tells_by old new task others (Programmed rest) result out advances leaves sends = absurd (false≢true (sym (ap (λ (r : Stepped). r.sent) leaves.1) ∙ sends))

@@ -32,6 +32,7 @@ use Rattle.hpb_device.specs.Sizes.{sizes}
 use Rattle.hpb_device.specs.Standing.{sizes_of, kept_of, programmed_of, DeviceStands}
 use Rattle.hpb_device.specs.State.{DeviceState}
 use Rattle.hpb_device.specs.Task.{IsWaiting, IsQueue}
+use Rattle.hpb_device.proofs.Leaving.{waiting_queue}
 use Rattle.hpb_device.proofs.Stepping.{keeps_waiting, none_programmed}
 
 -- no request but a command does anything
@@ -53,31 +54,40 @@ waiting_more [] task = refl
 waiting_more (next ∷ others) task = ap (λ (ts : List Waiting). waiting_of next ∷ ts) (waiting_more others task)
 
 -- a command is kept last in order
-keeps_more : (luns units : ℕ) (kept : List Task) (held : List ℕ) (tasks : List Waiting) (task : Task) → IsQueue luns units held kept → IsWaiting luns units task
+keeps_more : (luns : ℕ) (lim : Limits) (kept : List Task) (held : List ℕ) (tasks : List Waiting) (task : Task) → IsQueue luns lim held kept → IsWaiting luns lim task
     → KeepsTasks kept held tasks → KeepsTasks (kept ++ task ∷ []) held (tasks ++ waiting_of task ∷ [])
-keeps_more luns units [] held tasks task queue is keeps =
-    let all : AllByRecursion (IsWaiting luns units) (task ∷ []) = (is, tt) in
+keeps_more luns lim [] held tasks task queue is keeps =
+    let all : AllByRecursion (IsWaiting luns lim) (task ∷ []) = (is, tt) in
     subst (λ (h : List ℕ). KeepsTasks (task ∷ []) h (tasks ++ waiting_of task ∷ [])) (sym queue)
-    (subst (λ (ts : List Waiting). KeepsTasks (task ∷ []) [] (ts ++ waiting_of task ∷ [])) (sym keeps) (keeps_waiting luns units (task ∷ []) all))
-keeps_more luns units (head ∷ others) held tasks task queue is keeps =
+    (subst (λ (ts : List Waiting). KeepsTasks (task ∷ []) [] (ts ++ waiting_of task ∷ [])) (sym keeps) (keeps_waiting luns lim (task ∷ []) all))
+keeps_more luns lim (head ∷ others) held tasks task queue is keeps =
     (keeps.0, keeps.1, ap (λ (ts : List Waiting). ts ++ waiting_of task ∷ []) keeps.2 ∙ ap (λ (ts : List Waiting). keeps.0 ∷ ts) (sym (waiting_more others task)))
 
-programmed_more : (luns units : ℕ) (kept : List Task) (task : Task) → IsWaiting luns units task → programmed_of kept ≡ programmed_of (kept ++ task ∷ [])
-programmed_more luns units [] task is = sym is.none_programmed
-programmed_more luns units (head ∷ others) task is = refl
+waiting_all : (luns : ℕ) (lim : Limits) (others : List Task) (task : Task) → AllByRecursion (IsWaiting luns lim) others → IsWaiting luns lim task → AllByRecursion (IsWaiting luns lim) (others ++ task ∷ [])
+waiting_all luns lim [] task all is = (is, tt)
+waiting_all luns lim (next ∷ others) task all is = (all.0, waiting_all luns lim others task all.1 is)
+
+pub queue_more : (luns : ℕ) (lim : Limits) (kept : List Task) (held : List ℕ) (task : Task) → IsQueue luns lim held kept → IsWaiting luns lim task → IsQueue luns lim held (kept ++ task ∷ [])
+queue_more luns lim [] held task queue is = waiting_queue luns lim held (task ∷ []) queue (is, tt)
+queue_more luns lim (head ∷ others) held task queue is = (queue.0, queue.1, waiting_all luns lim others task queue.2 is)
+
+programmed_more : (luns : ℕ) (lim : Limits) (kept : List Task) (task : Task) → IsWaiting luns lim task → programmed_of kept ≡ programmed_of (kept ++ task ∷ [])
+programmed_more luns lim [] task is = sym is.none_programmed
+programmed_more luns lim (head ∷ others) task is = refl
 
 -- a command of which nothing is done yet
-pub waits_begun : (lim : Limits) (luns : ℕ) (upiu : Upiu) (task : Task) → IsBegun lim luns upiu task → IsWaiting luns lim.units task
+pub waits_begun : (lim : Limits) (luns : ℕ) (upiu : Upiu) (task : Task) → IsBegun lim luns upiu task → IsWaiting luns lim task
 waits_begun lim luns upiu task begun = record {
   ok = begun.task_ok;
   none_asked = ap (λ (t : Task). t.asked) begun.task_is;
   none_come = ap (λ (t : Task). t.come) begun.task_is;
   none_sent = ap (λ (t : Task). t.sent) begun.task_is;
   none_programmed = ap (λ (t : Task). t.programmed) begun.task_is;
+  none_tried = ap (λ (t : Task). t.tried) begun.task_is;
 }
 
 -- a command is kept
-pub stands_kept : (d : DeviceState) (task : Task) (bytes : List ℕ) (lim : Limits) (luns : ℕ) (first : First) (e : History) → IsQueue luns lim.units d.held d.tasks → IsBegun lim luns (upiu_at bytes) task
+pub stands_kept : (d : DeviceState) (task : Task) (bytes : List ℕ) (lim : Limits) (luns : ℕ) (first : First) (e : History) → IsQueue luns lim d.held d.tasks → IsBegun lim luns (upiu_at bytes) task
     → ((tasks : List Waiting) → KeepsTasks d.tasks d.held tasks → IsKept (sizes_of d) tasks bytes task)
     → DeviceStands d first e → DeviceStands (record d { tasks = d.tasks ++ task ∷ [] }) first (e ▹ Host bytes)
 stands_kept d task bytes lim luns first e queue begun follows at =
@@ -98,8 +108,8 @@ stands_kept d task bytes lim luns first e queue begun follows at =
     λ tasks programmed. Stands (sizes_of d) first (record (kept_of d tasks) { programmed = programmed }) (e ▹ Host bytes) in
     record {
       tasks = at.tasks ++ waiting_of task ∷ [];
-      keeps = keeps_more luns lim.units d.tasks d.held at.tasks task queue waits at.keeps;
-      stands = subst (λ (n : ℕ). P (at.tasks ++ waiting_of task ∷ []) n) (programmed_more luns lim.units d.tasks task waits)
+      keeps = keeps_more luns lim d.tasks d.held at.tasks task queue waits at.keeps;
+      stands = subst (λ (n : ℕ). P (at.tasks ++ waiting_of task ∷ []) n) (programmed_more luns lim d.tasks task waits)
           (subst (λ (t : Waiting). P (at.tasks ++ t ∷ []) (programmed_of d.tasks)) same now);
     }
 
@@ -168,11 +178,11 @@ stands_with_reply d bytes reply out first e is follows at =
     }
 
 -- data that weren't asked for end the head
-pub stands_without_head : (d : DeviceState) (kept : Task) (others : List Task) (bytes out : List ℕ) (residual luns units : ℕ) (first : First) (e : History) → d.tasks ≡ kept ∷ others → AllByRecursion (IsWaiting luns units) others → residual < 2 ^ 32
+pub stands_without_head : (d : DeviceState) (kept : Task) (others : List Task) (bytes out : List ℕ) (residual luns : ℕ) (lim : Limits) (first : First) (e : History) → d.tasks ≡ kept ∷ others → AllByRecursion (IsWaiting luns lim) others → residual < 2 ^ 32
     → out ≡ upiu_out (reply_upiu (Check kept.lun kept.tag residual DataNotAsked))
     → ((tasks : List Waiting) → KeepsTasks d.tasks d.held tasks → reply_of (sizes_of d) true tasks bytes ≡ Some (reply_upiu (Check kept.lun kept.tag residual DataNotAsked)))
     → DeviceStands d first e → DeviceStands (record d { tasks = others; held = [] }) first (e ▹ Host bytes ▹ Device out)
-stands_without_head d kept others bytes out residual luns units first e is waiting fits sent follows at =
+stands_without_head d kept others bytes out residual luns lim first e is waiting fits sent follows at =
     let keeps = subst (λ (ts : List Task). KeepsTasks ts d.held at.tasks) is at.keeps in
     let task = keeps.0 in
     let ws = map waiting_of others in
@@ -189,8 +199,8 @@ stands_without_head d kept others bytes out residual luns units first e is waiti
     let P : ℕ → List ℕ → Type 0 = λ n b. Stands s first (record (kept_of d ws) { programmed = n }) (e ▹ Host bytes ▹ Device b) in
     record {
       tasks = ws;
-      keeps = keeps_waiting luns units others waiting;
-      stands = subst (λ (n : ℕ). P n out) (sym (none_programmed luns units others waiting)) (subst (P 0) (sym (sent ∙ ap upiu_out same)) now);
+      keeps = keeps_waiting luns lim others waiting;
+      stands = subst (λ (n : ℕ). P n out) (sym (none_programmed luns lim others waiting)) (subst (P 0) (sym (sent ∙ ap upiu_out same)) now);
     }
 
 -- the events that a reply owes

@@ -1,5 +1,5 @@
 -- A device that stands at a history stands at it with the events of one step.
-use Rattle.std.proofs.Common.{◌≡◌, ℕ, ◌+◌, ◌-◌, ◌*◌, ◌/◌, ◌^◌, ◌<◌, ◌≤◌, true, List, [], ◌∷◌, length, drop, min, slice_range, map, Option, Some, None, zero, suc, false, refl, sym, ◌∙◌, ap, subst, arith, inl, inr, ◌⊎◌}
+use Rattle.std.proofs.Common.{◌≡◌, ℕ, ◌+◌, ◌-◌, ◌*◌, ◌/◌, ◌^◌, ◌<◌, ◌≤◌, true, List, [], ◌∷◌, length, drop, min, slice_range, map, length-take-le, Option, Some, None, zero, suc, false, refl, sym, ◌∙◌, ap, subst, arith, inl, inr, ◌⊎◌}
 use Rattle.std.proofs.Math.ListN.{drop_of_length-le}
 use Rattle.std.proofs.lemmas.List.{drop-drop}
 use Rattle.std.specs.Prelude.{slice_set, take}
@@ -11,6 +11,8 @@ use Rattle.flash_pages.proofs.Units.{get_or-unit_of-place}
 use Rattle.flash_pages.proofs.Programming.{length-unit_of, next_seq-programmed}
 use Rattle.flash_store.specs.Store.{StoreState}
 use Rattle.hpb_cdb.specs.declared.cdb.Cdb.{Cdb}
+use Rattle.hpb_cdb.specs.declared.limits.Limits.{Limits}
+use Rattle.hpb_cdb.specs.Cdb.{blocks_of}
 use Rattle.hpb_cdb.specs.declared.cdb.Cdb.TheVariants.{TestReady, Read, Write, Capacity, Sync, HpbRead, ReadBuffer, Prefetch, InactOne, InactAll}
 use Rattle.upiu_wire.specs.Upiu.{upiu_out}
 use Rattle.flat_unit.specs.declared.event.Event.TheVariants.{Device, Failed as CallFailed}
@@ -35,7 +37,7 @@ use Rattle.std.specs.List.{AllByRecursion}
 use Rattle.flat_unit.specs.History.{followed_by}
 use Rattle.flat_unit.specs.Replays.{events_of}
 use Rattle.hpb_device.specs.declared.advance.Progress.{Progress}
-use Rattle.hpb_device.specs.declared.advance.Progress.TheVariants.{Shown, Told, Asked, Programmed, Ended, Failed}
+use Rattle.hpb_device.specs.declared.advance.Progress.TheVariants.{Shown, Found, Missed, Listed, Told, Asked, Programmed, Ended, Failed}
 use Rattle.hpb_device.specs.declared.device.Stepped.{Stepped}
 use Rattle.hpb_device.specs.Advance.{Advances}
 use Rattle.hpb_device.specs.Calls.{Leaves}
@@ -46,7 +48,7 @@ use Rattle.hpb_device.specs.declared.reply.Reply.TheVariants.{Good}
 use Rattle.hpb_device.specs.declared.reply.Cause.{Cause}
 use Rattle.hpb_device.specs.declared.reply.Cause.TheVariants.{ReadFailed, WriteFailed, NoRoom}
 use Rattle.hpb_device.specs.Reply.{cause_sense}
-use Rattle.hpb_device.specs.Advance.{IsComplete, HasNoRoom, check, call_of, failure_of, IsSameStore, Shows, Tells, Asks, Programs, Fails, MovesBlocks, capacity_of, nth_place, first_block}
+use Rattle.hpb_device.specs.Advance.{IsComplete, HasNoRoom, check, call_of, failure_of, IsSameStore, SendsBlock, Shows, Misses, Lists, Tells, Asks, Programs, Fails, MovesBlocks, ReadsBlocks, entries_of, first_listed, capacity_of, nth_place, first_block}
 use Rattle.hpb_device.specs.Keeps.{KeepsTasks, waiting_of}
 use Rattle.hpb_device.specs.Limits.{limits_of}
 use Rattle.hpb_device.specs.Reply.{reply_upiu}
@@ -54,6 +56,8 @@ use Rattle.hpb_device.specs.Sizes.{sizes}
 use Rattle.hpb_device.specs.Standing.{sizes_of, kept_of, programmed_of, DeviceStands}
 use Rattle.hpb_device.specs.State.{DeviceState}
 use Rattle.hpb_device.specs.Task.{IsTaskOk, IsWaiting, IsQueue, IsServed, bytes_given, bytes_taken}
+use Rattle.hpb_device.proofs.Commands.{reads, writes}
+use Rattle.flat_unit.proofs.Listing.{length-entries_from}
 
 -- the task of a history, of which these bytes have come
 abbrev pub flat : Task → List ℕ → Waiting
@@ -90,15 +94,15 @@ drop-nil zero = refl
 drop-nil (suc n) = refl
 
 -- a task of which nothing is done yet may be the first one
-pub keeps_waiting : (luns units : ℕ) (others : List Task) → AllByRecursion (IsWaiting luns units) others → KeepsTasks others [] (map waiting_of others)
-keeps_waiting luns units [] all = refl
-keeps_waiting luns units (next ∷ others) all =
+pub keeps_waiting : (luns : ℕ) (lim : Limits) (others : List Task) → AllByRecursion (IsWaiting luns lim) others → KeepsTasks others [] (map waiting_of others)
+keeps_waiting luns lim [] all = refl
+keeps_waiting luns lim (next ∷ others) all =
     let is = all.0 in
     (waiting_of next, record { lun = refl; tag = refl; command = refl; expected = refl; asked = sym is.none_asked; come = sym is.none_come; last = drop-nil (next.come - length {A = ℕ} []); sent = sym is.none_sent }, refl)
 
-pub none_programmed : (luns units : ℕ) (others : List Task) → AllByRecursion (IsWaiting luns units) others → programmed_of others ≡ 0
-none_programmed luns units [] all = refl
-none_programmed luns units (next ∷ others) all = all.0.none_programmed
+pub none_programmed : (luns : ℕ) (lim : Limits) (others : List Task) → AllByRecursion (IsWaiting luns lim) others → programmed_of others ≡ 0
+none_programmed luns lim [] all = refl
+none_programmed luns lim (next ∷ others) all = all.0.none_programmed
 
 -- a device with these sizes stands at a history that these tasks and this unit stand at
 record Judged : Type 0 where
@@ -140,12 +144,12 @@ is_written InactAll n more = absurd (omega arith)
 
 -- what is known of a device that goes on by one step
 pub record IsReady (d : DeviceState) (task : Task) (others : List Task) (tasks : List Waiting) : Type 0 where
-  pub ok : IsTaskOk d.store.luns d.store.units task
+  pub ok : IsTaskOk d.store.luns (limits_of d.shape) task
   pub units : d.store.units ≡ d.shape.units
   pub goes : task.come ≡ task.asked
   pub part : length d.held ≤ task.come
   pub only : IsFirst task others d.held tasks
-  pub waiting : AllByRecursion (IsWaiting d.store.luns d.store.units) others
+  pub waiting : AllByRecursion (IsWaiting d.store.luns (limits_of d.shape)) others
 
 fits_wire : (d : DeviceState) (task : Task) (come : List ℕ) → task.expected < 2 ^ 32 → FitsWire (sizes_of d) (flat task come)
 fits_wire d task come fits = record { block = omega arith; expected = fits }
@@ -166,42 +170,127 @@ finish d now rest others tasks changed first e same shape pages is programmed he
     (moved ∙ kept_same d now tasks (programmed_of d.tasks) same pages (sym programmed ∙ sym (ap programmed_of head)))
     (subst (λ (ts : List Task). KeepsTasks ts now.held tasks) (sym head) keeps) at
 
+-- what a command sends and takes is the same to the flat unit
+given_is : (s : Sizes) (lim : Limits) (command : Cdb) → s.block ≡ 4096 → s.units ≡ lim.units → s.per_region ≡ lim.per_region → s.per_sub ≡ lim.per_sub → IsServed lim command
+    → Rattle.flat_unit.specs.Command.bytes_given s command ≡ bytes_given lim command
+given_is s lim (Read lba n) block units region sub ok = ap (λ (b : ℕ). b * n) block
+given_is s lim (HpbRead lba entry n id) block units region sub ok = ap (λ (b : ℕ). b * n) block
+given_is s lim (ReadBuffer number part len) block units region sub ok =
+    λ i. let l : Limits = record { units = units i; per_region = region i; per_sub = sub i } in min len (8 * blocks_of l number part)
+given_is s lim (Write lba n) block units region sub ok = refl
+given_is s lim TestReady block units region sub ok = refl
+given_is s lim Capacity block units region sub ok = refl
+given_is s lim (Sync lba n) block units region sub ok = refl
+given_is s lim (Prefetch lba id len) block units region sub ok = absurd ok
+given_is s lim (InactOne number) block units region sub ok = absurd ok
+given_is s lim InactAll block units region sub ok = absurd ok
+
+taken_is : (s : Sizes) (lim : Limits) (command : Cdb) → s.block ≡ 4096 → IsServed lim command → Rattle.flat_unit.specs.Command.bytes_taken s command ≡ bytes_taken command
+taken_is s lim (Write lba n) block ok = ap (λ (b : ℕ). b * n) block
+taken_is s lim (Read lba n) block ok = refl
+taken_is s lim (HpbRead lba entry n id) block ok = refl
+taken_is s lim (ReadBuffer region sub len) block ok = refl
+taken_is s lim TestReady block ok = refl
+taken_is s lim Capacity block ok = refl
+taken_is s lim (Sync lba n) block ok = refl
+taken_is s lim (Prefetch lba id len) block ok = absurd ok
+taken_is s lim (InactOne region) block ok = absurd ok
+taken_is s lim InactAll block ok = absurd ok
+
+-- what a command that reads blocks is to the flat unit
+pub record ReadsAt (s : Sizes) (task : Waiting) (command : Cdb) : Type 0 where
+  pub place : next_place s task command ≡ Some (record { lun = task.lun; lba = first_block command + task.sent / s.block })
+  pub piece : (block : List ℕ) → length block ≡ s.block → IsPiece s task command block
+  pub may : MayEndWith command read_failed
+  pub cause : failure_of command ≡ ReadFailed
+  pub call : call_of command ≡ ReadCall
+
+pub reads_at : (s : Sizes) (task : Waiting) (command : Cdb) → ReadsBlocks command → ReadsAt s task command
+reads_at s task (Read lba n) is = record { place = refl; piece = λ block size. size; may = inl refl; cause = refl; call = refl }
+reads_at s task (HpbRead lba entry n id) is = record { place = refl; piece = λ block size. size; may = inl refl; cause = refl; call = refl }
+reads_at s task TestReady is = absurd is
+reads_at s task (Write lba n) is = absurd is
+reads_at s task Capacity is = absurd is
+reads_at s task (Sync lba n) is = absurd is
+reads_at s task (ReadBuffer region sub len) is = absurd is
+reads_at s task (Prefetch lba id len) is = absurd is
+reads_at s task (InactOne region) is = absurd is
+reads_at s task InactAll is = absurd is
+
 -- the next block of a read is sent
 pub steps_shown : (d now : DeviceState) (task rest : Task) (others : List Task) (out : List ℕ) (first : First) (e : History) → d.tasks ≡ task ∷ others → (at : DeviceStands d first e) → IsReady d task others at.tasks
-    → Shows d.store task rest out → now.store.pages ≡ d.store.pages → now.held ≡ d.held → now.tasks ≡ rest ∷ others → IsSameStore d.store now.store → now.shape ≡ d.shape
+    → SendsBlock d.store task rest out → now.store.pages ≡ d.store.pages → now.held ≡ d.held → now.tasks ≡ rest ∷ others → IsSameStore d.store now.store → now.shape ≡ d.shape
     → DeviceStands now first (e ▹ Device out)
 steps_shown d now task rest others out first e was at ready shows pages held head same shape =
     let xs = ready.only.come in
     let ws = map waiting_of others in
     let t = flat task xs in
     let s = sizes_of d in
-    let command = shows.read in
-    let lba = command.0 in
-    let n = command.1 in
-    let is = command.2 in
-    let p : Place = record { lun = task.lun; lba = lba + task.sent / 4096 } in
-    let here : nth_place task (task.sent / 4096) ≡ p = ap (λ (k : ℕ). record { lun = task.lun; lba = k + task.sent / 4096 }) (ap first_block is) in
-    let given : bytes_given task.command ≡ 4096 * n = ap bytes_given is in
-    let range : lba + n ≤ d.store.units = subst (IsServed d.store.units) is ready.ok.served in
-    let inside : IsPlace d.store.luns d.store.units p = record { lun = ready.ok.lun; lba = omega (arith, shows.more, given, range) } in
+    let moves = reads d.store.luns (limits_of d.shape) task ready.ok shows.reads in
+    let flat_read = reads_at s t task.command shows.reads in
+    let p : Place = nth_place task (task.sent / 4096) in
+    let given = given_is s (limits_of d.shape) task.command refl refl refl refl ready.ok.served in
+    let inside : IsPlace d.store.luns d.store.units p = record { lun = ready.ok.lun; lba = omega (arith, shows.more, moves.gives, moves.within, ready.units) } in
     let placed : IsPlace s.luns s.units p = record { lun = ready.ok.lun; lba = omega (arith, inside.lba, ready.units) } in
     let block = block_of d.store.pages p in
-    let size : length block ≡ 4096 = ap (λ (q : Place). length (block_of d.store.pages q)) (sym here) ∙ shows.size in
     let unit = unit_of d.store.luns d.store.units d.store.pages in
     let stored : block ≡ block_at s unit p =
     sym (get_or-unit_of-place d.store.luns d.store.units d.store.pages p inside) ∙ ap (λ (u : ℕ). Rattle.std.specs.Prelude.slice_index_or unit (index_of u p) []) ready.units in
-    let allows : Allows s t (Data block) = (subst (λ (c : Cdb). task.sent < Rattle.flat_unit.specs.Command.bytes_given s c) (sym is) (omega (arith, shows.more, given)), subst (λ (c : Cdb). IsPiece s t c block) (sym is) size) in
-    let next : next_place s t task.command ≡ Some p = ap (next_place s t) is in
-    let step = stands_shown s first (kept_of d (t ∷ ws)) e t ws p block (fits_wire d task xs ready.ok.expected_fits) next placed allows stored (at_head d task others first e at ready) in
-    let now_task : Task = record task { sent = task.sent + 4096 } in
-    let sent : out ≡ upiu_out (upiu_of s t (Data block)) =
-    shows.sent ∙ ap (λ (q : Place). upiu_out (data_upiu DataIn task.lun task.tag task.sent (block_of d.store.pages q))) here in
-    let changed : with_sent (length block) t ∷ ws ≡ flat now_task xs ∷ ws = ap (λ (k : ℕ). record t { sent = task.sent + k } ∷ ws) size in
+    let allows : Allows s t (Data block) = (omega (arith, shows.more, ready.ok.given, given), flat_read.piece block shows.size) in
+    let step = stands_shown s first (kept_of d (t ∷ ws)) e t ws p block (fits_wire d task xs ready.ok.expected_fits) flat_read.place placed allows stored (at_head d task others first e at ready) in
+    let now_task : Task = record task { sent = task.sent + 4096; tried = false } in
+    let changed : with_sent (length block) t ∷ ws ≡ flat now_task xs ∷ ws = ap (λ (k : ℕ). record t { sent = task.sent + k } ∷ ws) shows.size in
     let is_head : now.tasks ≡ now_task ∷ others = head ∙ ap (λ (r : Task). r ∷ others) shows.task_is in
     finish d now now_task others (flat now_task xs ∷ ws) (with_sent (length block) t ∷ ws) first (e ▹ Device out) same shape pages changed
     (sym (ap programmed_of was) ∙ refl) is_head
     (subst (λ (h : List ℕ). KeepsTasks (now_task ∷ others) h (flat now_task xs ∷ ws)) (sym held) (keeps_flat now_task others d.held xs ready.only.counted ready.only.last))
-    (subst (λ (b : List ℕ). Stands s first (record (kept_of d (with_sent (length block) t ∷ ws)) { programmed = programmed_of d.tasks }) (e ▹ Device b)) (sym sent) step)
+    (subst (λ (b : List ℕ). Stands s first (record (kept_of d (with_sent (length block) t ∷ ws)) { programmed = programmed_of d.tasks }) (e ▹ Device b)) (sym shows.sent) step)
+
+-- an entry is tried in vain
+pub steps_missed : (d now : DeviceState) (task rest : Task) (others : List Task) (first : First) (e : History) → d.tasks ≡ task ∷ others → (at : DeviceStands d first e) → IsReady d task others at.tasks
+    → Misses d.store task rest → now.store.pages ≡ d.store.pages → now.held ≡ d.held → now.tasks ≡ rest ∷ others → IsSameStore d.store now.store → now.shape ≡ d.shape
+    → DeviceStands now first e
+steps_missed d now task rest others first e was at ready misses pages held head same shape =
+    let xs = ready.only.come in
+    let ws = map waiting_of others in
+    let now_task : Task = record task { tried = true } in
+    let is_head : now.tasks ≡ now_task ∷ others = head ∙ ap (λ (r : Task). r ∷ others) misses.task_is in
+    finish d now now_task others (flat now_task xs ∷ ws) (flat task xs ∷ ws) first e same shape pages refl
+    (sym (ap programmed_of was) ∙ refl) is_head
+    (subst (λ (h : List ℕ). KeepsTasks (now_task ∷ others) h (flat now_task xs ∷ ws)) (sym held) (keeps_flat now_task others d.held xs ready.only.counted ready.only.last))
+    (at_head d task others first e at ready)
+
+-- entries are sent
+pub steps_listed : (d now : DeviceState) (task rest : Task) (others : List Task) (count : ℕ) (out : List ℕ) (first : First) (e : History) → d.tasks ≡ task ∷ others → (at : DeviceStands d first e) → IsReady d task others at.tasks
+    → Lists (limits_of d.shape) d.store task rest count out → now.store.pages ≡ d.store.pages → now.held ≡ [] → now.tasks ≡ rest ∷ others → IsSameStore d.store now.store → now.shape ≡ d.shape
+    → DeviceStands now first (e ▹ Device out)
+steps_listed d now task rest others count out first e was at ready lists pages held head same shape =
+    let xs = ready.only.come in
+    let ws = map waiting_of others in
+    let t = flat task xs in
+    let s = sizes_of d in
+    let command = lists.read_buffer in
+    let is = command.3 in
+    let entries = entries_of d.store.pages task.lun (first_listed (limits_of d.shape) task.command + task.sent / 8) ((count + 7) / 8) in
+    let bytes = take count entries in
+    let whole : length entries ≡ 8 * ((count + 7) / 8) = length-entries_from _ _ ((count + 7) / 8) in
+    let size : length bytes ≡ count = length-take-le _ _ (omega (arith, whole)) in
+    let given = given_is s (limits_of d.shape) task.command refl refl refl refl ready.ok.served in
+    let more : task.sent < Rattle.flat_unit.specs.Command.bytes_given s task.command = omega (arith, lists.more, ready.ok.given, given) in
+    let piece : IsPiece s t task.command bytes =
+    subst (λ (c : Cdb). IsPiece s t c bytes) (sym is) (size ∙ (lists.counted ∙ ap (λ (n : ℕ). min 4096 (n - task.sent)) (ready.ok.given ∙ (sym given ∙ ap (Rattle.flat_unit.specs.Command.bytes_given s) is)))) in
+    let allows : Allows s t (Data bytes) = (more, piece) in
+    let next : next_place s t task.command ≡ None = ap (next_place s t) is in
+    let step = stands_data s first (kept_of d (t ∷ ws)) e t ws bytes (fits_wire d task xs ready.ok.expected_fits) next allows (at_head d task others first e at ready) in
+    let now_task : Task = record task { sent = task.sent + count } in
+    let changed : with_sent (length bytes) t ∷ ws ≡ flat now_task xs ∷ ws = ap (λ (k : ℕ). record t { sent = task.sent + k } ∷ ws) size in
+    let is_head : now.tasks ≡ now_task ∷ others = head ∙ ap (λ (r : Task). r ∷ others) lists.task_is in
+    let none_taken : bytes_taken task.command ≡ 0 = ap bytes_taken is in
+    let none : drop (task.come - length {A = ℕ} []) xs ≡ [] = drop_of_length-le xs (omega (arith, ready.only.counted)) in
+    finish d now now_task others (flat now_task xs ∷ ws) (with_sent (length bytes) t ∷ ws) first (e ▹ Device out) same shape pages changed
+    (sym (ap programmed_of was) ∙ refl) is_head
+    (subst (λ (h : List ℕ). KeepsTasks (now_task ∷ others) h (flat now_task xs ∷ ws)) (sym held) (keeps_flat now_task others [] xs ready.only.counted none))
+    (subst (λ (b : List ℕ). Stands s first (record (kept_of d (with_sent (length bytes) t ∷ ws)) { programmed = programmed_of d.tasks }) (e ▹ Device b)) (sym lists.sent) step)
 
 -- the capacity of the unit is sent
 pub steps_told : (d now : DeviceState) (task rest : Task) (others : List Task) (out : List ℕ) (first : First) (e : History) → d.tasks ≡ task ∷ others → (at : DeviceStands d first e) → IsReady d task others at.tasks
@@ -310,22 +399,22 @@ steps_programmed d now task rest others start first e was at ready programs held
     step
 
 -- the device stands without its head
-without : (d now : DeviceState) (others : List Task) (first : First) (e : History) → AllByRecursion (IsWaiting d.store.luns d.store.units) others → (now.tasks ≡ others) × (now.held ≡ []) → now.store.pages ≡ d.store.pages → IsSameStore d.store now.store → now.shape ≡ d.shape
+without : (d now : DeviceState) (others : List Task) (first : First) (e : History) → AllByRecursion (IsWaiting d.store.luns (limits_of d.shape)) others → (now.tasks ≡ others) × (now.held ≡ []) → now.store.pages ≡ d.store.pages → IsSameStore d.store now.store → now.shape ≡ d.shape
     → Stands (sizes_of d) first (record (kept_of d (map waiting_of others)) { programmed = 0 }) e → DeviceStands now first e
 without d now others first e waiting left pages same shape at =
     let ws = map waiting_of others in
     stands_now (sizes_of d) (record (kept_of d ws) { programmed = 0 }) now ws first e (sizes_same d now same shape)
-    (kept_same d now ws 0 same pages (sym (ap programmed_of left.0 ∙ none_programmed d.store.luns d.store.units others waiting)))
-    (subst (λ (ts : List Task). KeepsTasks ts now.held ws) (sym left.0) (subst (λ (h : List ℕ). KeepsTasks others h ws) (sym left.1) (keeps_waiting d.store.luns d.store.units others waiting))) at
+    (kept_same d now ws 0 same pages (sym (ap programmed_of left.0 ∙ none_programmed d.store.luns (limits_of d.shape) others waiting)))
+    (subst (λ (ts : List Task). KeepsTasks ts now.held ws) (sym left.0) (subst (λ (h : List ℕ). KeepsTasks others h ws) (sym left.1) (keeps_waiting d.store.luns (limits_of d.shape) others waiting))) at
 
 -- a command reads or programs blocks where it is a READ(10) or a WRITE(10)
-moves_by : (command : Cdb) → MovesBlocks command → ((lba : ℕ) × (n : ℕ) × (command ≡ Read lba n)) ⊎ ((lba : ℕ) × (n : ℕ) × (command ≡ Write lba n))
-moves_by (Read lba n) is = inl (lba, n, refl)
+moves_by : (command : Cdb) → MovesBlocks command → ReadsBlocks command ⊎ ((lba : ℕ) × (n : ℕ) × (command ≡ Write lba n))
+moves_by (Read lba n) is = inl tt
+moves_by (HpbRead lba entry n id) is = inl tt
 moves_by (Write lba n) is = inr (lba, n, refl)
 moves_by TestReady is = absurd is
 moves_by Capacity is = absurd is
 moves_by (Sync lba n) is = absurd is
-moves_by (HpbRead lba entry n id) is = absurd is
 moves_by (ReadBuffer region sub len) is = absurd is
 moves_by (Prefetch lba id len) is = absurd is
 moves_by (InactOne region) is = absurd is
@@ -343,30 +432,6 @@ write_or_not (Prefetch lba id len) = inl refl
 write_or_not (InactOne region) = inl refl
 write_or_not InactAll = inl refl
 
-given_is : (s : Sizes) (units : ℕ) (command : Cdb) → s.block ≡ 4096 → IsServed units command → Rattle.flat_unit.specs.Command.bytes_given s command ≡ bytes_given command
-given_is s units (Read lba n) block ok = ap (λ (b : ℕ). b * n) block
-given_is s units (Write lba n) block ok = refl
-given_is s units TestReady block ok = refl
-given_is s units Capacity block ok = refl
-given_is s units (Sync lba n) block ok = refl
-given_is s units (HpbRead lba entry n id) block ok = absurd ok
-given_is s units (ReadBuffer region sub len) block ok = absurd ok
-given_is s units (Prefetch lba id len) block ok = absurd ok
-given_is s units (InactOne region) block ok = absurd ok
-given_is s units InactAll block ok = absurd ok
-
-taken_is : (s : Sizes) (units : ℕ) (command : Cdb) → s.block ≡ 4096 → IsServed units command → Rattle.flat_unit.specs.Command.bytes_taken s command ≡ bytes_taken command
-taken_is s units (Read lba n) block ok = refl
-taken_is s units (Write lba n) block ok = ap (λ (b : ℕ). b * n) block
-taken_is s units TestReady block ok = refl
-taken_is s units Capacity block ok = refl
-taken_is s units (Sync lba n) block ok = refl
-taken_is s units (HpbRead lba entry n id) block ok = absurd ok
-taken_is s units (ReadBuffer region sub len) block ok = absurd ok
-taken_is s units (Prefetch lba id len) block ok = absurd ok
-taken_is s units (InactOne region) block ok = absurd ok
-taken_is s units InactAll block ok = absurd ok
-
 -- the head is complete, and is answered GOOD
 pub steps_good : (d now : DeviceState) (task : Task) (others : List Task) (out : List ℕ) (first : First) (e : History) → d.tasks ≡ task ∷ others → (at : DeviceStands d first e) → IsReady d task others at.tasks
     → IsComplete task → out ≡ upiu_out (reply_upiu (Good task.lun task.tag (task.expected - task.sent - task.come)))
@@ -377,11 +442,11 @@ steps_good d now task others out first e was at ready complete sent none pages s
     let ws = map waiting_of others in
     let t = flat task xs in
     let s = sizes_of d in
-    let gives = given_is s d.store.units task.command refl ready.ok.served in
-    let takes = taken_is s d.store.units task.command refl ready.ok.served in
-    let allows : Allows s t (GoodAnswer []) = (complete.sent ∙ sym gives, ready.only.counted ∙ (complete.come ∙ sym takes), omega arith) in
+    let gives = given_is s (limits_of d.shape) task.command refl refl refl refl ready.ok.served in
+    let takes = taken_is s (limits_of d.shape) task.command refl ready.ok.served in
+    let allows : Allows s t (GoodAnswer []) = (complete.sent ∙ (ready.ok.given ∙ sym gives), ready.only.counted ∙ (complete.come ∙ sym takes), omega arith) in
     let fits = fits_wire d task xs ready.ok.expected_fits in
-    let residual : task.expected - task.sent - task.come ≡ task.expected - needed s task.command = omega (arith, complete.sent, complete.come, gives, takes) in
+    let residual : task.expected - task.sent - task.come ≡ task.expected - needed s task.command = omega (arith, complete.sent, complete.come, ready.ok.given, gives, takes) in
     let is_out : out ≡ upiu_out (upiu_of s t (GoodAnswer [])) = sent ∙ ap (λ (r : ℕ). upiu_out (response_upiu task.lun task.tag 0x00 r [])) residual in
     let standing = at_head d task others first e at ready in
     let After : List ℕ → Type 0 = λ b. Stands s first (record (kept_of d ws) { programmed = 0 }) (e ▹ Device b) in
@@ -398,7 +463,7 @@ steps_cut : (d now : DeviceState) (task : Task) (others : List Task) (come : Lis
     → task.expected < 2 ^ 32 → MayEndWith task.command sense → HasCauseFor (sizes_of d) ⊥ first.next e sense.asc
     → out ≡ upiu_out (reply_upiu (check task cause))
     → (now.tasks ≡ others) × (now.held ≡ []) → now.store.pages ≡ d.store.pages → IsSameStore d.store now.store → now.shape ≡ d.shape
-    → AllByRecursion (IsWaiting d.store.luns d.store.units) others → Stands (sizes_of d) first (kept_of d (flat task come ∷ map waiting_of others)) e → DeviceStands now first (e ▹ Device out)
+    → AllByRecursion (IsWaiting d.store.luns (limits_of d.shape)) others → Stands (sizes_of d) first (kept_of d (flat task come ∷ map waiting_of others)) e → DeviceStands now first (e ▹ Device out)
 steps_cut d now task others come cause sense out first e is counted fits may has_cause sent none pages same shape waiting standing =
     let t = flat task come in
     let ws = map waiting_of others in
@@ -442,31 +507,43 @@ steps_failed d now task others op reply out first e was at ready fails sent none
     λ cause is. sent ∙ (ap (λ (r : Reply). upiu_out (reply_upiu r)) fails.answer ∙ ap (λ (c : Cause). upiu_out (reply_upiu (check task c))) is) in
     elim (moves_by task.command fails.moves) [
       | inl read ↦
-          let call : op ≡ ReadCall = fails.call ∙ ap call_of read.2 in
-          let may : MayEndWith task.command read_failed = subst (λ (c : Cdb). MayEndWith c read_failed) (sym read.2) (inl refl) in
+          let flat_read = reads_at s (flat task xs) task.command read in
+          let call : op ≡ ReadCall = fails.call ∙ flat_read.call in
           let cause : HasCauseFor s ⊥ first.next (e ▹ CallFailed op) 0x11 = subst (λ (o : ChipOp). HasCauseFor s ⊥ first.next (e ▹ CallFailed o) 0x11) (sym call) (cause_read s ⊥ first.next e) in
-          steps_cut d now task others xs ReadFailed read_failed out first (e ▹ CallFailed op) refl ready.only.counted ready.ok.expected_fits may cause (answered ReadFailed (ap failure_of read.2)) none pages same shape ready.waiting standing
+          steps_cut d now task others xs ReadFailed read_failed out first (e ▹ CallFailed op) refl ready.only.counted ready.ok.expected_fits flat_read.may cause (answered ReadFailed flat_read.cause) none pages same shape ready.waiting standing
       | inr write ↦
           let may : MayEndWith task.command write_failed = subst (λ (c : Cdb). MayEndWith c write_failed) (sym write.2) (inl refl) in
           steps_cut d now task others xs WriteFailed write_failed out first (e ▹ CallFailed op) refl ready.only.counted ready.ok.expected_fits may (cause_write s ⊥ first.next e op) (answered WriteFailed (ap failure_of write.2)) none pages same shape ready.waiting standing
     ]
 
 -- what is known of a device that isn't at rest
-pub ready_of : (d : DeviceState) (task : Task) (others : List Task) (first : First) (e : History) (at : DeviceStands d first e) → d.tasks ≡ task ∷ others → IsQueue d.store.luns d.store.units d.held d.tasks
+pub ready_of : (d : DeviceState) (task : Task) (others : List Task) (first : First) (e : History) (at : DeviceStands d first e) → d.tasks ≡ task ∷ others → IsQueue d.store.luns (limits_of d.shape) d.held d.tasks
     → d.store.units ≡ d.shape.units → task.come ≡ task.asked → IsReady d task others at.tasks
 ready_of d task others first e at was queue units goes =
-    let q = subst (IsQueue d.store.luns d.store.units d.held) was queue in
+    let q = subst (IsQueue d.store.luns (limits_of d.shape) d.held) was queue in
     record { ok = q.0; units = units; goes = goes; part = q.1.part; only = first_is d.tasks d.held at.tasks task others was at.keeps; waiting = q.2 }
 
 -- what a step came to, and what it tells
 pub steps : (d now : DeviceState) (task : Task) (others : List Task) (progress : Progress) (result : Stepped) (out : List ℕ) (first : First) (e : History) → d.tasks ≡ task ∷ others
-    → IsQueue d.store.luns d.store.units d.held d.tasks → d.store.units ≡ d.shape.units → task.come ≡ task.asked
-    → Advances d.store now.store d.held now.held task progress out → Leaves progress others now.tasks now.held result out → IsSameStore d.store now.store → now.shape ≡ d.shape
+    → IsQueue d.store.luns (limits_of d.shape) d.held d.tasks → d.store.units ≡ d.shape.units → task.come ≡ task.asked
+    → Advances (limits_of d.shape) d.store now.store d.held now.held task progress out → Leaves progress others now.tasks now.held result out → IsSameStore d.store now.store → now.shape ≡ d.shape
     → DeviceStands d first e → DeviceStands now first (followed_by e (events_of (group_of result out)))
 steps d now task others (Shown rest) result out first e was queue units goes advances leaves same shape at =
     let ready = ready_of d task others first e at was queue units goes in
     subst (λ (r : Stepped). DeviceStands now first (followed_by e (events_of (group_of r out)))) (sym leaves.1)
-    (steps_shown d now task rest others out first e was at ready advances.0 advances.1 advances.2 leaves.0 same shape)
+    (steps_shown d now task rest others out first e was at ready advances.0.sends advances.1 advances.2 leaves.0 same shape)
+steps d now task others (Found rest) result out first e was queue units goes advances leaves same shape at =
+    let ready = ready_of d task others first e at was queue units goes in
+    subst (λ (r : Stepped). DeviceStands now first (followed_by e (events_of (group_of r out)))) (sym leaves.1)
+    (steps_shown d now task rest others out first e was at ready advances.0.sends advances.1 advances.2 leaves.0 same shape)
+steps d now task others (Missed rest) result out first e was queue units goes advances leaves same shape at =
+    let ready = ready_of d task others first e at was queue units goes in
+    subst (λ (r : Stepped). DeviceStands now first (followed_by e (events_of (group_of r out)))) (sym leaves.1)
+    (steps_missed d now task rest others first e was at ready advances.0 advances.1 advances.2 leaves.0 same shape)
+steps d now task others (Listed rest) result out first e was queue units goes advances leaves same shape at =
+    let ready = ready_of d task others first e at was queue units goes in
+    subst (λ (r : Stepped). DeviceStands now first (followed_by e (events_of (group_of r out)))) (sym leaves.1)
+    (steps_listed d now task rest others advances.0 out first e was at ready advances.1 advances.2 advances.3 leaves.0 same shape)
 steps d now task others (Told rest) result out first e was queue units goes advances leaves same shape at =
     let ready = ready_of d task others first e at was queue units goes in
     subst (λ (r : Stepped). DeviceStands now first (followed_by e (events_of (group_of r out)))) (sym leaves.1)

@@ -1,5 +1,5 @@
 -- What comes of bytes of the host.
-use Rattle.std.specs.Prelude.{⊤, ◌≡◌, ℕ, ◌+◌, ◌^◌, ◌<◌, ◌≤◌, Bool, true, not, ◌==◌, ◌&&◌, nat_le, List, [], ◌∷◌, length, Some, None, Result, Ok, Err}
+use Rattle.std.specs.Prelude.{⊤, ◌≡◌, ℕ, ◌+◌, ◌^◌, ◌<◌, ◌≤◌, Bool, true, false, not, ◌==◌, ◌&&◌, nat_le, List, [], ◌∷◌, length, Some, None, Result, Ok, Err}
 use Rattle.hpb_cdb.specs.declared.limits.Limits.{Limits}
 use Rattle.hpb_cdb.specs.Cdb.{IsCdb}
 use Rattle.upiu_wire.specs.Upiu.{Upiu, upiu_at}
@@ -21,13 +21,13 @@ use Rattle.hpb_device.specs.declared.task.TheConstants.{TASKS}
 use Rattle.hpb_device.specs.declared.reply.Reply.{Reply}
 use Rattle.hpb_device.specs.declared.accept.Verdict.{Verdict}
 use Rattle.hpb_device.specs.declared.accept.Verdict.TheVariants.{Keep, Data, Answer, End}
-use Rattle.hpb_device.specs.Task.{WaitsForData, IsTaskOk}
+use Rattle.hpb_device.specs.Task.{WaitsForData, IsTaskOk, bytes_given}
 
 -- the task of a COMMAND, of which nothing is done yet
 pub record IsBegun (lim : Limits) (luns : ℕ) (upiu : Upiu) (task : Task) : Type 0 where
   pub command : IsCdb upiu.cdb lim task.command
-  pub task_is : task ≡ record { lun = upiu.lun; tag = upiu.tag; command = task.command; expected = upiu.first; asked = 0; come = 0; sent = 0; programmed = 0 }
-  pub task_ok : IsTaskOk luns lim.units task
+  pub task_is : task ≡ record { lun = upiu.lun; tag = upiu.tag; command = task.command; expected = upiu.first; given = bytes_given lim task.command; asked = 0; come = 0; sent = 0; programmed = 0; tried = false }
+  pub task_ok : IsTaskOk luns lim task
 
 -- the segment goes on with the data that the task waits for
 pub record IsNextPiece (task : Task) (segment : List ℕ) : Type 0 where

@@ -12,7 +12,7 @@ use Rattle.hpb_device.specs.declared.task.TheConstants.{TASKS}
 use Rattle.hpb_device.specs.declared.reply.Cause.TheVariants.{DataNotAsked}
 use Rattle.hpb_device.specs.declared.reply.Reply.TheVariants.{Check}
 use Rattle.hpb_device.specs.declared.advance.Progress.{Progress}
-use Rattle.hpb_device.specs.declared.advance.Progress.TheVariants.{Shown, Told, Asked, Programmed, Ended, Failed}
+use Rattle.hpb_device.specs.declared.advance.Progress.TheVariants.{Shown, Found, Missed, Listed, Told, Asked, Programmed, Ended, Failed}
 use Rattle.hpb_device.specs.Accept.{IsBegun, IsNextPiece}
 use Rattle.hpb_device.specs.Advance.{Advances, IsSameStore, MakesACallAtMost}
 use Rattle.hpb_device.specs.Limits.{limits_of}
@@ -62,6 +62,9 @@ stepped failed sent = record { idle = false; failed = failed; moved = None; sent
 -- the tasks that are kept after a step, the data that are held, and what the step tells and sends
 abbrev pub Leaves : Progress → (others tasks : List Task) → (held : List ℕ) → Stepped → List ℕ → Type 0
 Leaves (Shown rest) others tasks held result out = (tasks ≡ rest ∷ others) × (result ≡ stepped None true)
+Leaves (Found rest) others tasks held result out = (tasks ≡ rest ∷ others) × (result ≡ stepped None true)
+Leaves (Missed rest) others tasks held result out = (tasks ≡ rest ∷ others) × (result ≡ stepped None false)
+Leaves (Listed rest) others tasks held result out = (tasks ≡ rest ∷ others) × (result ≡ stepped None true)
 Leaves (Told rest) others tasks held result out = (tasks ≡ rest ∷ others) × (result ≡ stepped None true)
 Leaves (Asked rest) others tasks held result out = (tasks ≡ rest ∷ others) × (result ≡ stepped None true)
 Leaves (Programmed rest) others tasks held result out = (tasks ≡ rest ∷ others) × (result ≡ stepped None false)
@@ -82,8 +85,8 @@ pub record GoesOn (old new : DeviceState) (result : Stepped) (out : List ℕ) : 
   pub others : List Task
   pub progress : Progress
   pub was : old.tasks ≡ task ∷ others
-  pub ok : IsTaskOk old.store.luns old.shape.units task
-  pub advances : Advances old.store new.store old.held new.held task progress out
+  pub ok : IsTaskOk old.store.luns (limits_of old.shape) task
+  pub advances : Advances (limits_of old.shape) old.store new.store old.held new.held task progress out
   pub leaves : Leaves progress others new.tasks new.held result out
   pub same : IsSameStore old.store new.store
   pub calls : MakesACallAtMost old.store new.store

@@ -6,12 +6,11 @@ use Rattle.hpb_cdb.specs.declared.limits.Limits.{Limits}
 use Rattle.flat_unit.specs.Sizes.{Sizes}
 use Rattle.hpb_device.specs.declared.task.TheConstants.{TASKS}
 
--- the opcodes of the commands that are served (SBC, SPC)
+-- the opcodes of the commands that are served (SBC, SPC; HPB READ and READ BUFFER are this project's own)
 abbrev pub OPCODES : List ℕ
-OPCODES = 0x00 ∷ 0x25 ∷ 0x28 ∷ 0x2A ∷ 0x35 ∷ []
+OPCODES = 0x00 ∷ 0x25 ∷ 0x28 ∷ 0x2A ∷ 0x35 ∷ 0xF8 ∷ 0xF9 ∷ []
 
--- TEST UNIT READY, READ CAPACITY(10), READ(10), WRITE(10) and SYNCHRONIZE CACHE(10) are served, and no page is looked at
--- before the first command. Nothing is collected, so a write finds no page once all of them are programmed.
+-- All commands but WRITE BUFFER are served, and no page is looked at before the first command. Nothing is collected, so a write finds no page once all of them are programmed.
 abbrev pub sizes : ℕ → Limits → Geometry → Sizes
 sizes luns lim geometry = record {
   luns = luns;

@@ -8,6 +8,7 @@ use Rattle.region_state.specs.declared.shape.Shape.{Shape}
 use Rattle.region_state.specs.Shape.{IsWithinLimits}
 use Rattle.hpb_device.specs.declared.task.Task.{Task}
 use Rattle.hpb_device.specs.declared.task.TheConstants.{BURST_BYTES}
+use Rattle.hpb_device.specs.Limits.{limits_of}
 use Rattle.hpb_device.specs.Task.{WaitsForData, IsQueue, steps_of}
 
 -- its store, the shape of each logical unit, the tasks in order of acceptance, and the data of the first one that came last
@@ -22,7 +23,7 @@ pub record IsDevice (store : StoreState) (shape : Shape) (luns : ℕ) (tasks : L
   pub luns_served : store.luns ≡ luns
   pub units_served : store.units ≡ shape.units
   pub served : CanServe store.geometry luns shape.units
-  pub queue : IsQueue luns shape.units held tasks
+  pub queue : IsQueue luns (limits_of shape) held tasks
   pub burst : BURST_BYTES ≤ room
 
 -- nothing can go on without the host: no task is kept, or the first one waits for data
@@ -40,4 +41,4 @@ IsNewFault fault.Memory geometry luns shape = IsWithinLimits shape × CanServe g
 
 -- how many steps a device takes at most before it is at rest
 abbrev pub steps_left : DeviceState → ℕ
-steps_left device = sum_by steps_of device.tasks
+steps_left device = sum_by (steps_of (limits_of device.shape)) device.tasks

@@ -11,7 +11,7 @@ ghost use Rattle.hpb_device.specs.Accept.{IsVerdict, IsBegun, IsNextPiece, IsCom
 ghost use Rattle.hpb_device.specs.Keeps.{KeepsTasks};
 ghost use Rattle.hpb_device.specs.Reply.{reply_upiu};
 ghost use Rattle.hpb_device.specs.Sizes.{OPCODES, sizes};
-ghost use Rattle.hpb_device.specs.Task.{IsQueue, IsServed, IsTaskOk};
+ghost use Rattle.hpb_device.specs.Task.{IsQueue, IsServed, bytes_given};
 
 use crate::queue::head_of;
 use crate::reply::{Cause, Reply};
@@ -26,7 +26,7 @@ const TAG_IN_USE: u8 = 8;
 
 const DATA_NOT_WAITED_FOR: u8 = 9;
 
-/// The opcodes that are served (SPC, SBC).
+/// The opcodes that are served (SPC, SBC; those of HPB are this project's own).
 const TEST_UNIT_READY: u8 = 0x00;
 
 const READ_CAPACITY_10: u8 = 0x25;
@@ -36,6 +36,10 @@ const READ_10: u8 = 0x28;
 const WRITE_10: u8 = 0x2A;
 
 const SYNCHRONIZE_CACHE_10: u8 = 0x35;
+
+const HPB_READ: u8 = 0xF8;
+
+const READ_BUFFER: u8 = 0xF9;
 
 /// What comes of the bytes of the host.
 pub enum Verdict<'a> {
@@ -53,7 +57,7 @@ pub enum Verdict<'a> {
 pub fn judge<'a>(limits: Limits, luns: u8, tasks: &[Task], bytes: &'a [u8]) -> Verdict<'a>
     requires limits { 0 < limits.per_sub }
     requires few_blocks { limits.units < 2 ^ 32 }
-    requires queue { (held : List ℕ) × IsQueue luns limits.units held tasks.now }
+    requires queue { (held : List ℕ) × IsQueue luns limits held tasks.now }
     ensures verdict { IsVerdict limits luns tasks.now (upiu_at bytes.now) result }
     ensures follows { (geometry : Geometry) (held : List ℕ) (waiting : List Waiting) → KeepsTasks tasks.now held waiting
         → Follows (sizes luns limits geometry) waiting bytes.now result }
@@ -141,7 +145,8 @@ fn judge_command(
             if expected < hpb_cdb::needed(&command, limits) {
                 return Err(check(Cause::InvalidField));
             }
-            Ok(Task::new(lun, tag, command, expected))
+            let given = given(&command, limits);
+            Ok(Task::new(lun, tag, command, expected, given))
         }
     }
 }
@@ -159,8 +164,25 @@ fn is_opcode(opcode: u8) -> bool
 {
     matches!(
         opcode,
-        TEST_UNIT_READY | READ_CAPACITY_10 | READ_10 | WRITE_10 | SYNCHRONIZE_CACHE_10
+        TEST_UNIT_READY
+            | READ_CAPACITY_10
+            | READ_10
+            | WRITE_10
+            | SYNCHRONIZE_CACHE_10
+            | HPB_READ
+            | READ_BUFFER
     )
+}
+
+/// The bytes that a command sends by DATA IN.
+fn given(command: &Cdb, limits: Limits) -> u32
+    requires { IsServed limits command.now }
+    ensures { result ≡ bytes_given limits command.now }
+{
+    match command {
+        Cdb::Write { .. } => 0,
+        _ => hpb_cdb::needed(command, limits),
+    }
 }
 
 /// The command of a CDB, or why it is refused.
@@ -168,7 +190,7 @@ fn command_of(limits: Limits, cdb: &[u8]) -> Result<Cdb, Cause>
     requires bytes { length cdb.now ≡ 16 }
     requires limits { 0 < limits.per_sub }
     ensures command { IfOk result (IsCdb cdb.now limits) }
-    ensures served { IfOk result (IsServed limits.units) }
+    ensures served { IfOk result (IsServed limits) }
     ensures command_of { (luns : ℕ) (geometry : Geometry) → IsCommandOf (sizes luns limits geometry) cdb.now result }
 {
     if !is_opcode(cdb[0]) {
@@ -196,7 +218,7 @@ fn goes_on(task: Task, view: &UpiuView<'_>) -> bool
 
 /// What comes of a DATA OUT.
 fn judge_data<'a>(limits: Limits, luns: u8, tasks: &[Task], view: &UpiuView<'a>) -> Verdict<'a>
-    requires { (held : List ℕ) × IsQueue luns limits.units held tasks.now }
+    requires { (held : List ℕ) × IsQueue luns limits held tasks.now }
     ensures verdict { IsVerdict limits luns tasks.now (upiu_at view.now) result }
     ensures follows { (held : List ℕ) (waiting : List Waiting) → KeepsTasks tasks.now held waiting
         → IsDataVerdict waiting (upiu_at view.now) result }

@@ -1,25 +1,33 @@
 // One step of the first task.
-ghost use Rattle.std.specs.Prelude.{◌≡◌, ◌+◌, ◌-◌, ◌*◌, ◌<◌, ◌≤◌, ℕ, List, length, vec_capacity};
-ghost use Rattle.hpb_device.specs.Task.{IsTaskOk, HoldsData, steps_of};
+ghost use Rattle.std.specs.Prelude.{◌≡◌, ◌+◌, ◌-◌, ◌*◌, ◌^◌, ◌<◌, ◌≤◌, ℕ, true, false, List, [], length, vec_capacity};
+ghost use Rattle.hpb_device.specs.Task.{IsTaskOk, HoldsData, steps_of, tries_entry};
 ghost use Rattle.flash_store.specs.Store.{StoreState};
-ghost use Rattle.hpb_device.specs.Advance.{Advances, AllTasks, IsSameStore, MakesACallAtMost, check};
+ghost use Rattle.hpb_device.specs.Advance.{ReadsBlocks, entries_of, entry_given, first_block, first_listed, Advances, AllTasks, IsSameStore, MakesACallAtMost, check};
 
 use crate::reply::{Cause, Reply};
-use crate::task::{BURST_BYTES, CAPACITY_BYTES, Task};
+use crate::task::{BURST_BYTES, CAPACITY_BYTES, ENTRY_BYTES, Task};
 use byteorder::{BigEndian, ByteOrder};
 use flash_pages::{BLOCK_BYTES, ChipOp, Flash};
 use flash_store::{Store, StoreFault, Wrote};
-use hpb_cdb::Cdb;
+use hpb_cdb::{Cdb, Limits};
 use hpb_outside::Failed;
 use upiu_wire::UpiuBuf;
 
 const BLOCK: u32 = BLOCK_BYTES as u32;
 
+const ENTRY: u32 = ENTRY_BYTES as u32;
+
 /// What a step made of a command.
 #[derive(Clone, Copy, Debug, PartialEq, Eq)]
 pub enum Progress {
-    /// A block was sent by DATA IN.
+    /// A block that was looked up was sent by DATA IN.
     Shown(Task),
+    /// A block was read by its entry and sent by DATA IN.
+    Found(Task),
+    /// The entry isn't that of the block, and nothing was sent.
+    Missed(Task),
+    /// Entries were sent by DATA IN.
+    Listed(Task),
     /// The capacity of the unit was sent by DATA IN.
     Told(Task),
     /// Data were asked for by READY TO TRANSFER.
@@ -62,73 +70,206 @@ pub fn advance<F: Flash>(
     store: &mut Store<F>,
     held: &mut Vec<u8>,
     task: Task,
-    units: u32,
+    limits: Limits,
     out: &mut UpiuBuf,
 ) -> Progress
-    requires task { IsTaskOk store.old.luns store.old.units task }
-    requires units { units ≡ store.old.units }
-    requires some_block { 0 < units }
+    requires task { IsTaskOk store.old.luns limits task }
+    requires units { limits.units ≡ store.old.units }
+    requires some_block { 0 < limits.units }
     requires held { HoldsData held.old.items task }
+    requires room { BURST_BYTES ≤ vec_capacity held.old }
     requires goes { task.come ≡ task.asked }
-    ensures advances { Advances store.old store.new held.old.items held.new.items task result out.new }
-    ensures ok { AllTasks (IsTaskOk store.old.luns store.old.units) result }
+    ensures advances { Advances limits store.old store.new held.old.items held.new.items task result out.new }
+    ensures ok { AllTasks (IsTaskOk store.old.luns limits) result }
     ensures held { AllTasks (HoldsData held.new.items) result }
-    ensures fewer { AllTasks (λ rest. steps_of rest < steps_of task) result }
+    ensures fewer { AllTasks (λ rest. steps_of limits rest < steps_of limits task) result }
     ensures same { IsSameStore store.old store.new }
     ensures calls { MakesACallAtMost store.old store.new }
-    ensures room { vec_capacity held.new ≡ vec_capacity held.old }
+    ensures room { vec_capacity held.old ≤ vec_capacity held.new }
 {
     match task.command {
-        Cdb::Read { lba, n } => show(store, task, lba, n, out),
-        Cdb::Write { lba, n } => {
-            if BLOCK * task.programmed < task.come {
-                program(store, held, task, lba, n)
+        Cdb::Read { lba, .. } => show(store, task, lba, limits, out),
+        Cdb::HpbRead { lba, entry, .. } => {
+            if task.tries_entry() {
+                try_entry(store, task, lba, entry, limits, out)
             } else {
-                ask(store, held, task, lba, n, out)
+                show(store, task, lba, limits, out)
             }
         }
-        Cdb::Capacity => tell(task, units, out),
+        Cdb::Write { lba, n } => {
+            if BLOCK * task.programmed < task.come {
+                program(store, held, task, lba, n, limits)
+            } else {
+                ask(store, held, task, lba, n, limits, out)
+            }
+        }
+        Cdb::ReadBuffer { .. } => list(store, held, task, limits, out),
+        Cdb::Capacity => tell(task, limits, out),
         _ => Progress::Ended(good(task)),
     }
 }
 
-/// Sends the next block of a READ(10), or answers it.
-fn show<F: Flash>(store: &mut Store<F>, task: Task, lba: u32, n: u16, out: &mut UpiuBuf) -> Progress
-    requires task { IsTaskOk store.old.luns store.old.units task }
-    requires command { task.command ≡ Cdb.Read lba n }
-    ensures advances { (held : List ℕ) → Advances store.old store.new held held task result out.new }
-    ensures ok { AllTasks (IsTaskOk store.old.luns store.old.units) result }
+/// Sends the next block of a read, whose place is looked up, or answers it.
+fn show<F: Flash>(
+    store: &mut Store<F>,
+    task: Task,
+    lba: u32,
+    limits: Limits,
+    out: &mut UpiuBuf,
+) -> Progress
+    requires task { IsTaskOk store.old.luns limits task }
+    requires units { limits.units ≡ store.old.units }
+    requires reads { ReadsBlocks task.command }
+    requires first { first_block task.command ≡ lba }
+    requires untried { tries_entry task ≡ false }
+    requires goes { task.come ≡ task.asked }
+    ensures advances { (held : List ℕ) → Advances limits store.old store.new held held task result out.new }
+    ensures ok { AllTasks (IsTaskOk store.old.luns limits) result }
     ensures held { (held : List ℕ) → HoldsData held task → AllTasks (HoldsData held) result }
-    ensures fewer { AllTasks (λ rest. steps_of rest < steps_of task) result }
+    ensures fewer { AllTasks (λ rest. steps_of limits rest < steps_of limits task) result }
     ensures same { IsSameStore store.old store.new }
     ensures calls { MakesACallAtMost store.old store.new }
 {
-    if task.sent == BLOCK * u32::from(n) {
+    if task.sent == task.given {
         return Progress::Ended(good(task));
     }
     match store.read_mapped(task.lun, lba + task.sent / BLOCK) {
         Ok(block) => {
             out.put_data_in(task.lun, task.tag, task.sent, block);
-            Progress::Shown(Task {
-                sent: task.sent + BLOCK,
-                ..task
-            })
+            Progress::Shown(task.with_block())
         }
         Err(Failed) => Progress::Failed(ChipOp::Read, check(task, Cause::ReadFailed)),
     }
 }
 
+/// Sends the first block of an HPB READ where its entry is the number of the block's current page.
+fn try_entry<F: Flash>(
+    store: &mut Store<F>,
+    task: Task,
+    lba: u32,
+    entry: u64,
+    limits: Limits,
+    out: &mut UpiuBuf,
+) -> Progress
+    requires task { IsTaskOk store.old.luns limits task }
+    requires units { limits.units ≡ store.old.units }
+    requires first { first_block task.command ≡ lba }
+    requires entry { entry_given task.command ≡ entry }
+    requires tries { tries_entry task ≡ true }
+    ensures advances { (held : List ℕ) → Advances limits store.old store.new held held task result out.new }
+    ensures ok { AllTasks (IsTaskOk store.old.luns limits) result }
+    ensures held { (held : List ℕ) → HoldsData held task → AllTasks (HoldsData held) result }
+    ensures fewer { AllTasks (λ rest. steps_of limits rest < steps_of limits task) result }
+    ensures same { IsSameStore store.old store.new }
+    ensures calls { MakesACallAtMost store.old store.new }
+{
+    match store.read_by_entry(task.lun, lba, entry) {
+        Ok(Some(block)) => {
+            out.put_data_in(task.lun, task.tag, task.sent, block);
+            Progress::Found(task.with_block())
+        }
+        Ok(None) => Progress::Missed(Task {
+            tried: true,
+            ..task
+        }),
+        Err(Failed) => Progress::Failed(ChipOp::Read, check(task, Cause::ReadFailed)),
+    }
+}
+
+/// Sends the next entries of READ BUFFER, or answers it.
+fn list<F: Flash>(
+    store: &mut Store<F>,
+    held: &mut Vec<u8>,
+    task: Task,
+    limits: Limits,
+    out: &mut UpiuBuf,
+) -> Progress
+    requires task { IsTaskOk store.old.luns limits task }
+    requires units { limits.units ≡ store.old.units }
+    requires held { HoldsData held.old.items task }
+    requires room { BURST_BYTES ≤ vec_capacity held.old }
+    requires command { (region : ℕ) × (sub : ℕ) × (len : ℕ) × (task.command ≡ Cdb.ReadBuffer region sub len) }
+    requires goes { task.come ≡ task.asked }
+    ensures advances { Advances limits store.old store.new held.old.items held.new.items task result out.new }
+    ensures ok { AllTasks (IsTaskOk store.old.luns limits) result }
+    ensures held { AllTasks (HoldsData held.new.items) result }
+    ensures fewer { AllTasks (λ rest. steps_of limits rest < steps_of limits task) result }
+    ensures same { IsSameStore store.old store.new }
+    ensures calls { (store.new.calls ≡ store.old.calls) × (store.new.faults ≡ store.old.faults) }
+    ensures room { vec_capacity held.old ≤ vec_capacity held.new }
+{
+    if task.sent == task.given {
+        return Progress::Ended(good(task));
+    }
+    let count = (task.given - task.sent).min(BLOCK);
+    let first = first_listed(task.command, limits) + task.sent / ENTRY;
+    let entries = count.div_ceil(ENTRY);
+    push_entries(store, held, task.lun, first, entries);
+    out.put_data_in(task.lun, task.tag, task.sent, &held[..count as usize]);
+    held.clear();
+    Progress::Listed(Task {
+        sent: task.sent + count,
+        ..task
+    })
+}
+
+/// The first block of the subregion that READ BUFFER names.
+fn first_listed(command: Cdb, limits: Limits) -> u32
+    requires { first_listed limits command < 2 ^ 32 }
+    ensures { result ≡ first_listed limits command }
+{
+    match command {
+        Cdb::ReadBuffer { region, sub, .. } => {
+            u32::from(region) * limits.per_region + u32::from(sub) * limits.per_sub
+        }
+        _ => 0,
+    }
+}
+
+/// Puts the entries of blocks into an empty buffer.
+fn push_entries<F: Flash>(
+    store: &mut Store<F>,
+    held: &mut Vec<u8>,
+    lun: u8,
+    first: u32,
+    count: u32,
+)
+    requires lun { lun < store.old.luns }
+    requires blocks { first + count ≤ store.old.units }
+    requires few_blocks { store.old.units < 2 ^ 32 }
+    requires empty { held.old.items ≡ [] }
+    requires room { ENTRY_BYTES * count ≤ vec_capacity held.old }
+    ensures entries { held.new.items ≡ entries_of store.old.pages lun first count }
+    ensures room { vec_capacity held.old ≤ vec_capacity held.new }
+    ensures pages { store.new.pages ≡ store.old.pages }
+    ensures same { IsSameStore store.old store.new }
+    ensures calls { (store.new.calls ≡ store.old.calls) × (store.new.faults ≡ store.old.faults) }
+{
+    for lba in first..first + count {
+        held.extend_from_slice(&store.entry_of(lun, lba).to_be_bytes())
+            .unwrap();
+    }
+}
+
 /// Programs the next block of a WRITE(10), whose data have come.
-fn program<F: Flash>(store: &mut Store<F>, held: &[u8], task: Task, lba: u32, n: u16) -> Progress
-    requires task { IsTaskOk store.old.luns store.old.units task }
+fn program<F: Flash>(
+    store: &mut Store<F>,
+    held: &[u8],
+    task: Task,
+    lba: u32,
+    n: u16,
+    limits: Limits,
+) -> Progress
+    requires task { IsTaskOk store.old.luns limits task }
+    requires units { limits.units ≡ store.old.units }
     requires held { HoldsData held.now task }
     requires command { task.command ≡ Cdb.Write lba n }
     requires come { task.come ≡ task.asked }
     requires more { BLOCK_BYTES * task.programmed < task.come }
-    ensures advances { (out : List ℕ) → Advances store.old store.new held.now held.now task result out }
-    ensures ok { AllTasks (IsTaskOk store.old.luns store.old.units) result }
+    ensures advances { (out : List ℕ) → Advances limits store.old store.new held.now held.now task result out }
+    ensures ok { AllTasks (IsTaskOk store.old.luns limits) result }
     ensures held { AllTasks (HoldsData held.now) result }
-    ensures fewer { AllTasks (λ rest. steps_of rest < steps_of task) result }
+    ensures fewer { AllTasks (λ rest. steps_of limits rest < steps_of limits task) result }
     ensures same { IsSameStore store.old store.new }
     ensures calls { MakesACallAtMost store.old store.new }
 {
@@ -151,17 +292,18 @@ fn ask<F: Flash>(
     task: Task,
     lba: u32,
     n: u16,
+    limits: Limits,
     out: &mut UpiuBuf,
 ) -> Progress
-    requires task { IsTaskOk store.now.luns store.now.units task }
+    requires task { IsTaskOk store.now.luns limits task }
     requires command { task.command ≡ Cdb.Write lba n }
     requires come { task.come ≡ task.asked }
     requires programmed { BLOCK_BYTES * task.programmed ≡ task.come }
-    ensures advances { Advances store.now store.now held.old.items held.new.items task result out.new }
-    ensures ok { AllTasks (IsTaskOk store.now.luns store.now.units) result }
-    ensures fewer { AllTasks (λ rest. steps_of rest < steps_of task) result }
+    ensures advances { Advances limits store.now store.now held.old.items held.new.items task result out.new }
+    ensures ok { AllTasks (IsTaskOk store.now.luns limits) result }
+    ensures fewer { AllTasks (λ rest. steps_of limits rest < steps_of limits task) result }
     ensures held { AllTasks (HoldsData held.new.items) result }
-    ensures room { vec_capacity held.new ≡ vec_capacity held.old }
+    ensures room { vec_capacity held.old ≤ vec_capacity held.new }
 {
     let left = BLOCK * u32::from(n) - task.asked;
     if left == 0 {
@@ -176,22 +318,22 @@ fn ask<F: Flash>(
     })
 }
 
-/// Sends the capacity of a unit of so many blocks, or answers READ CAPACITY(10) (SBC).
-fn tell(task: Task, units: u32, out: &mut UpiuBuf) -> Progress
-    requires task { (luns : ℕ) × IsTaskOk luns units task }
-    requires some_block { 0 < units }
+/// Sends the capacity of a unit, or answers READ CAPACITY(10) (SBC).
+fn tell(task: Task, limits: Limits, out: &mut UpiuBuf) -> Progress
+    requires task { (luns : ℕ) × IsTaskOk luns limits task }
+    requires some_block { 0 < limits.units }
     requires command { task.command ≡ Cdb.Capacity }
     requires goes { task.come ≡ task.asked }
-    ensures advances { (store : StoreState) (held : List ℕ) → store.units ≡ units → Advances store store held held task result out.new }
-    ensures ok { (luns : ℕ) → IsTaskOk luns units task → AllTasks (IsTaskOk luns units) result }
+    ensures advances { (store : StoreState) (held : List ℕ) → store.units ≡ limits.units → Advances limits store store held held task result out.new }
+    ensures ok { (luns : ℕ) → IsTaskOk luns limits task → AllTasks (IsTaskOk luns limits) result }
     ensures held { (held : List ℕ) → HoldsData held task → AllTasks (HoldsData held) result }
-    ensures fewer { AllTasks (λ rest. steps_of rest < steps_of task) result }
+    ensures fewer { AllTasks (λ rest. steps_of limits rest < steps_of limits task) result }
 {
     if task.sent == CAPACITY_BYTES as u32 {
         return Progress::Ended(good(task));
     }
     let mut capacity = [0; CAPACITY_BYTES];
-    BigEndian::write_u32(&mut capacity[..4], units - 1);
+    BigEndian::write_u32(&mut capacity[..4], limits.units as u32 - 1);
     BigEndian::write_u32(&mut capacity[4..], BLOCK);
     out.put_data_in(task.lun, task.tag, task.sent, &capacity);
     Progress::Told(Task {

@@ -223,7 +223,8 @@ impl<F: Flash> Device<F> {
         if task.waits_for_data() {
             return Stepped::idle();
         }
-        let progress = advance(&mut self.store, &mut self.held, task, self.shape.units, out);
+        let limits = limits_of(self.shape);
+        let progress = advance(&mut self.store, &mut self.held, task, limits, out);
         leave(progress, &mut self.tasks, &mut self.held, out)
     }
 
@@ -259,11 +260,15 @@ fn leave(
     ensures room { vec_capacity held.new ≡ vec_capacity held.old }
 {
     match progress {
-        Progress::Shown(rest) | Progress::Told(rest) | Progress::Asked(rest) => {
+        Progress::Shown(rest)
+        | Progress::Found(rest)
+        | Progress::Listed(rest)
+        | Progress::Told(rest)
+        | Progress::Asked(rest) => {
             keep_head(tasks, rest);
             Stepped::of_task(None, true)
         }
-        Progress::Programmed(rest) => {
+        Progress::Missed(rest) | Progress::Programmed(rest) => {
             keep_head(tasks, rest);
             Stepped::of_task(None, false)
         }

@@ -1,5 +1,5 @@
-ghost use Rattle.std.specs.Prelude.{◌≡◌, ◌+◌, ◌^◌, ◌<◌, ◌↔◌, IsTrue};
-ghost use Rattle.hpb_device.specs.Task.{WaitsForData};
+ghost use Rattle.std.specs.Prelude.{◌≡◌, ◌+◌, ◌^◌, ◌<◌, ◌↔◌, IsTrue, false};
+ghost use Rattle.hpb_device.specs.Task.{WaitsForData, tries_entry};
 
 use hpb_cdb::Cdb;
 
@@ -12,6 +12,9 @@ pub const TASKS: usize = 32;
 /// The bytes that READ CAPACITY(10) sends (SBC).
 pub const CAPACITY_BYTES: usize = 8;
 
+/// The bytes of an entry.
+pub const ENTRY_BYTES: usize = 8;
+
 /// A command that is kept, and how far it has come. Offsets and lengths are bytes of its data.
 #[derive(Clone, Copy, Debug, PartialEq, Eq)]
 pub struct Task {
@@ -20,6 +23,8 @@ pub struct Task {
     pub command: Cdb,
     /// The bytes that the host expects to move.
     pub expected: u32,
+    /// The bytes that it sends by DATA IN in all.
+    pub given: u32,
     /// The bytes that were asked for by READY TO TRANSFER.
     pub asked: u32,
     /// The bytes that have come by DATA OUT.
@@ -28,27 +33,31 @@ pub struct Task {
     pub sent: u32,
     /// The blocks that were programmed.
     pub programmed: u32,
+    /// Whether the entry of the next block was tried in vain.
+    pub tried: bool,
 }
 
 impl Default for Task {
     /// TEST UNIT READY of unit 0, of which nothing is done yet.
     fn default() -> Task {
-        Task::new(0, 0, Cdb::TestReady, 0)
+        Task::new(0, 0, Cdb::TestReady, 0, 0)
     }
 }
 
 impl Task {
     /// A command of which nothing is done yet.
-    pub fn new(lun: u8, tag: u8, command: Cdb, expected: u32) -> Task
+    pub fn new(lun: u8, tag: u8, command: Cdb, expected: u32, given: u32) -> Task
         ensures { result ≡ record {
           lun = lun;
           tag = tag;
           command = command;
           expected = expected;
+          given = given;
           asked = 0;
           come = 0;
           sent = 0;
           programmed = 0;
+          tried = false;
         } }
     {
         Task {
@@ -56,10 +65,12 @@ impl Task {
             tag,
             command,
             expected,
+            given,
             asked: 0,
             come: 0,
             sent: 0,
             programmed: 0,
+            tried: false,
         }
     }
 
@@ -68,6 +79,28 @@ impl Task {
         ensures { IsTrue result ↔ WaitsForData self.now }
     {
         self.come < self.asked
+    }
+
+    /// Whether the next block has an entry that wasn't tried yet: that of the CDB is for the first block of an HPB READ.
+    pub fn tries_entry(&self) -> bool
+        ensures { result ≡ tries_entry self.now }
+    {
+        match self.command {
+            Cdb::HpbRead { n, .. } => self.sent == 0 && n != 0 && !self.tried,
+            _ => false,
+        }
+    }
+
+    /// The task with one more block that was sent.
+    pub fn with_block(self) -> Task
+        requires { self.sent + 4096 < 2 ^ 32 }
+        ensures { result ≡ record self { sent = self.sent + 4096; tried = false } }
+    {
+        Task {
+            sent: self.sent + 4096,
+            tried: false,
+            ..self
+        }
     }
 
     /// The task with so many more bytes of data that have come.

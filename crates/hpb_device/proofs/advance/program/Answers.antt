@@ -7,13 +7,13 @@ use Rattle.hpb_device.proofs.advance.program.Goals as goal
 
 pub overflow_add-lba : goal.overflow_add-lba
 overflow_add-lba g c =
-    let moves = writes c.args.store.now.luns c.args.store.now.units c.args.lba c.args.n c.args.task c.requires.task c.requires.command in
+    let moves = writes c.args.store.now.luns c.args.limits c.args.lba c.args.n c.args.task c.requires.task c.requires.command in
     omega (arith, moves.range, moves.takes)
 
 pub returns-in-Ok-Done-clause-advances : goal.returns-in-Ok-Done-clause-advances
 returns-in-Ok-Done-clause-advances g c =
     let task = c.args.task in
-    let moves = writes c.args.store.now.luns c.args.store.now.units c.args.lba c.args.n task c.requires.task c.requires.command in
+    let moves = writes c.args.store.now.luns c.args.limits c.args.lba c.args.n task c.requires.task c.requires.command in
     let start = 4096 * task.programmed + length c.args.held.now - task.come in
     let at : ℕ → Place = λ lba. record { lun = task.lun; lba = lba + task.programmed } in
     let bytes = slice_range c.args.held.now start (start + 4096) in

@@ -2,7 +2,7 @@ use Rattle.std.proofs.Common.{◌≡◌, ◌⊎◌, ℕ, ◌+◌, ◌<◌, ◌�
 use Rattle.std.specs.Prelude.{sum_by}
 use Rattle.hpb_cdb.specs.declared.limits.Limits.{Limits}
 use Rattle.flat_unit.specs.Replays.{bound}
-use Rattle.hpb_device.specs.Task.{IsQueue, steps_of}
+use Rattle.hpb_device.specs.Task.{IsQueue, IsWaiting, steps_of}
 use Rattle.flat_unit.specs.Reply.{reply_of}
 use Rattle.flat_unit.specs.Sizes.{Sizes}
 use Rattle.flat_unit.specs.Task.{Task as Waiting}
@@ -20,9 +20,25 @@ use Rattle.hpb_device.specs.State.{DeviceState, steps_left}
 use Rattle.hpb_device.proofs.Commands.{ends}
 use Rattle.hpb_device.proofs.Going.{keeps_left}
 use Rattle.hpb_device.proofs.Leaving.{ended_left}
-use Rattle.hpb_device.proofs.Receiving.{stands_kept, stands_with_data, stands_with_reply, stands_without_head, owes_events, no_effects, device_is, sizes_are, stands_same, answers_same}
+use Rattle.hpb_device.proofs.Receiving.{queue_more, waits_begun, stands_kept, stands_with_data, stands_with_reply, stands_without_head, owes_events, no_effects, device_is, sizes_are, stands_same, answers_same}
 use Rattle.hpb_device.specs.Limits.{limits_of}
 use Rattle.hpb_device.proofs.device.Device.receive.Goals as goal
+
+pub invariant_of-self : goal.invariant_of-self
+invariant_of-self g c =
+    let s = c.self.inside in
+    let task = c.in-Keep.task in
+    let pushed : c.push.new.self.items ≡ s.tasks.items ++ task ∷ [] = c.push.ensures.items in
+    let waits : IsWaiting s.luns (limits_of s.shape) task =
+    subst (λ (lim : Limits). IsWaiting s.luns lim task) c.limits_of-limits.ensures (waits_begun c.limits_of-limits.result s.luns (upiu_at c.args.bytes.now) task c.in-Keep.ensures.verdict.1) in
+    record {
+      limits = c.self.invariant.limits;
+      luns_served = c.self.invariant.luns_served;
+      units_served = c.self.invariant.units_served;
+      served = c.self.invariant.served;
+      queue = rw pushed (queue_more s.luns (limits_of s.shape) s.tasks.items s.held.items task c.self.invariant.queue waits);
+      burst = c.self.invariant.burst;
+    }
 
 pub returns-in-Keep-clause-stands : goal.returns-in-Keep-clause-stands
 returns-in-Keep-clause-stands g c = λ first e at.
@@ -33,8 +49,7 @@ returns-in-Keep-clause-stands g c = λ first e at.
     let sized = sizes_are d c.limits_of-limits.result s.luns c.limits_of-limits.ensures c.self.invariant.luns_served in
     let kept : (tasks : List Waiting) → KeepsTasks d.tasks d.held tasks → IsKept (sizes_of d) tasks c.args.bytes.now c.in-Keep.task =
     λ tasks keeps. subst (λ (z : Sizes). IsKept z tasks c.args.bytes.now c.in-Keep.task) sized (c.in-Keep.ensures.follows s.store.geometry d.held tasks (subst (λ (ts : List Task). KeepsTasks ts d.held tasks) (sym lent) keeps)) in
-    let same_units : c.limits_of-limits.result.units ≡ s.shape.units = ap (λ (lim : Limits). lim.units) c.limits_of-limits.ensures in
-    let queue : IsQueue s.luns c.limits_of-limits.result.units d.held d.tasks = subst (λ (units : ℕ). IsQueue s.luns units d.held d.tasks) (sym same_units) c.self.invariant.queue in
+    let queue : IsQueue s.luns c.limits_of-limits.result d.held d.tasks = subst (λ (lim : Limits). IsQueue s.luns lim d.held d.tasks) (sym c.limits_of-limits.ensures) c.self.invariant.queue in
     let now = stands_kept d c.in-Keep.task c.args.bytes.now c.limits_of-limits.result s.luns first e queue c.in-Keep.ensures.verdict.1 kept before in
     rw c.push.ensures.items now
 
@@ -59,7 +74,7 @@ returns-in-Data-clause-stands g c = λ first e at.
     let task = data_taken.task in
     let others = data_taken.others in
     let is : d.tasks ≡ task ∷ others = ap (λ (x : DeviceState). x.tasks) c.self.view_is ∙ data_taken.was in
-    let queue = subst (IsQueue s.luns s.shape.units d.held) is c.self.invariant.queue in
+    let queue = subst (IsQueue s.luns (limits_of s.shape) d.held) is c.self.invariant.queue in
     let now = stands_with_data d task others c.args.bytes.now segment first e is queue.1.part taken before in
     let same = device_is d c.take_data.new.self (record task { come = task.come + length segment } ∷ others) (d.held ++ segment)
     (c.take_data.ensures.store ∙ ap (λ (x : DeviceState). x.store) (sym c.self.view_is)) (c.take_data.ensures.shape ∙ ap (λ (x : DeviceState). x.shape) (sym c.self.view_is))
@@ -100,8 +115,8 @@ returns-in-Keep-clause-receives g c =
     subst (λ (lim : Limits). IsBegun lim d.store.luns (upiu_at c.args.bytes.now) task) c.limits_of-limits.ensures
     (subst (λ (luns : ℕ). IsBegun c.limits_of-limits.result luns (upiu_at c.args.bytes.now) task) (sym c.self.invariant.luns_served) c.in-Keep.ensures.verdict.1) in
     let some : 1 ≤ d.store.geometry.pages = let limits = c.self.invariant.served.limits in omega (arith, limits.least_pages) in
-    let left : sum_by steps_of c.push.new.self.items ≤ steps_left d + bound (sizes_of d) task.command =
-    subst (λ (ts : List Task). sum_by steps_of ts ≤ steps_left d + bound (sizes_of d) task.command) (sym pushed) (keeps_left d task some) in
+    let left : sum_by (steps_of (limits_of d.shape)) c.push.new.self.items ≤ steps_left d + bound (sizes_of d) task.command =
+    subst (λ (ts : List Task). sum_by (steps_of (limits_of d.shape)) ts ≤ steps_left d + bound (sizes_of d) task.command) (sym pushed) (keeps_left d task some) in
     let now : DeviceState = record { store = s.store; shape = s.shape; tasks = c.push.new.self.items; held = s.held.items } in
     let keeps : Keeps d now c.args.bytes.now = record { task = task; room = subst (λ (ts : List Task). length ts < 32) lent c.in-Keep.ensures.verdict.0; begun = begun; kept = pushed; held = refl; left = left } in
     inl (subst (λ (x : DeviceState). Keeps x now c.args.bytes.now) c.self.view_is keeps)
@@ -116,7 +131,7 @@ returns-in-End-clause-receives g c =
     let sent = c.put_reply-in-End.ensures ∙ ap (λ (r : Reply). upiu_out (reply_upiu r)) ended.4.2 in
     let gone : now.tasks ≡ ended.1 = c.end_head.ensures.tasks ∙ ap (drop 1) ended.2 in
     let fewer : steps_left now < steps_left d =
-    ended_left d.tasks now.tasks ended.0 ended.1 ended.2 gone in
+    ended_left (limits_of d.shape) d.tasks now.tasks ended.0 ended.1 ended.2 gone in
     let ends_it : EndsHead d now c.put_reply-in-End.new.out = record {
       task = ended.0;
       others = ended.1;
@@ -137,13 +152,13 @@ returns-in-End-clause-stands g c = λ first e at.
     let before : DeviceStands d first e = subst (λ (x : DeviceState). DeviceStands x first e) (sym c.self.view_is) at in
     let sized = sizes_are d c.limits_of-limits.result s.luns c.limits_of-limits.ensures c.self.invariant.luns_served in
     let ended = ends d.tasks c.in-End.reply (subst (λ (ts : List Task). EndsFirst ts c.in-End.reply) lent c.in-End.ensures.verdict) in
-    let queue = subst (IsQueue s.luns s.shape.units d.held) ended.2 c.self.invariant.queue in
+    let queue = subst (IsQueue s.luns (limits_of s.shape) d.held) ended.2 c.self.invariant.queue in
     let answers : (tasks : List Waiting) → KeepsTasks d.tasks d.held tasks → reply_of (sizes_of d) true tasks c.args.bytes.now ≡ Some (reply_upiu (Check ended.0.lun ended.0.tag ended.4.0 DataNotAsked)) =
     λ tasks keeps. subst (λ (z : Sizes). reply_of z true tasks c.args.bytes.now ≡ Some (reply_upiu c.in-End.reply)) sized (c.in-End.ensures.follows s.store.geometry d.held tasks (subst (λ (ts : List Task). KeepsTasks ts d.held tasks) (sym lent) keeps))
     ∙ ap (λ (r : Reply). Some (reply_upiu r)) ended.4.2 in
     let sent = c.put_reply-in-End.ensures ∙ ap (λ (r : Reply). upiu_out (reply_upiu r)) ended.4.2 in
     let gone : c.end_head.new.tasks.items ≡ ended.1 = c.end_head.ensures.tasks ∙ ap (drop 1) ended.2 in
-    let now = stands_without_head d ended.0 ended.1 c.args.bytes.now c.put_reply-in-End.new.out ended.4.0 s.luns s.shape.units first e ended.2 queue.2 ended.4.1 sent answers before in
+    let now = stands_without_head d ended.0 ended.1 c.args.bytes.now c.put_reply-in-End.new.out ended.4.0 s.luns (limits_of s.shape) first e ended.2 queue.2 ended.4.1 sent answers before in
     rw (gone, c.end_head.ensures.held) now
 
 pub returns-in-End-clause-answers : goal.returns-in-End-clause-answers

@@ -1,0 +1,37 @@
+use Rattle.std.proofs.Common.{◌≡◌, ℕ, ◌+◌, ◌-◌, ◌*◌, ◌<◌, ◌≤◌, ◌++◌, List, length, arith, sym, rules, refl, ap, ◌∙◌}
+use Rattle.std.specs.Prelude.{vec_capacity}
+use Rattle.byteorder.specs.Endian.{big_bytes}
+use Rattle.flash_pages.specs.Place.{Place}
+use Rattle.flash_store.specs.Entries.{entry_for}
+use Rattle.flat_unit.proofs.Listing.{length-entries_from, entries_more}
+use Rattle.hpb_device.specs.Advance.{entries_of}
+use Rattle.hpb_device.proofs.advance.push_entries.Goals as goal
+
+pub unwrap-requires : goal.unwrap-requires
+unwrap-requires g c =
+    let count = c.loop-lba.lba - c.args.first in
+    let whole : length c.loop-lba.held.items ≡ 8 * count = ap length c.loop-lba.invariant.entries ∙ length-entries_from _ c.args.first count in
+    let eight : length c.to_be_bytes.result ≡ 8 = search rules in
+    let more : c.loop-lba.lba < c.args.first + c.args.count = search rules in
+    c.extend_from_slice.ensures.succeeds (omega (arith, whole, eight, more, c.loop-lba.invariant.from, c.loop-lba.invariant.room, c.requires.room))
+
+pub loop-lba-preserved : goal.loop-lba-preserved
+loop-lba-preserved g c =
+    let count = c.loop-lba.lba - c.args.first in
+    let entry_at : ℕ → ℕ = λ lba. let p : Place = record { lun = c.args.lun; lba = lba } in entry_for c.args.store.now.pages p in
+    let next : c.args.first + count ≡ c.loop-lba.lba = omega (arith, c.loop-lba.invariant.from) in
+    let one_more : c.loop-lba.lba + 1 - c.args.first ≡ count + 1 = omega (arith, c.loop-lba.invariant.from) in
+    let entry : c.entry_of.result ≡ entry_at (c.args.first + count) = search rules in
+    let bytes : c.to_be_bytes.result ≡ big_bytes 8 c.entry_of.result = search rules in
+    let added : c.extend_from_slice.new.self.items ≡ c.loop-lba.held.items ++ c.to_be_bytes.result = search rules in
+    record {
+      entries = added ∙ (ap (λ (xs : List ℕ). xs ++ c.to_be_bytes.result) c.loop-lba.invariant.entries
+      ∙ (ap (λ (xs : List ℕ). entries_of c.args.store.now.pages c.args.lun c.args.first count ++ xs) (bytes ∙ ap (big_bytes 8) entry)
+      ∙ (sym (entries_more entry_at c.args.first count) ∙ ap (entries_of c.args.store.now.pages c.args.lun c.args.first) (sym one_more))));
+      from = omega (arith, c.loop-lba.invariant.from);
+      pages = search rules;
+      same = search rules;
+      calls = search rules;
+      faults = search rules;
+      room = search rules;
+    }

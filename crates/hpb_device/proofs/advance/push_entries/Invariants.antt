@@ -1,0 +1,16 @@
+use Rattle.std.proofs.Common.{◌≡◌, ◌-◌, ◌≤◌}
+use Rattle.std.specs.Prelude.{vec_capacity}
+use Rattle.hpb_device.specs.Advance.{IsSameStore, entries_of}
+use Rattle.hpb_device.proofs.advance.push_entries.Given as goal
+
+-- the entries of the blocks so far are there
+abbrev pub invariant-loop-lba : goal.invariant-loop-lba
+invariant-loop-lba g l = record {
+  entries : l.held.items ≡ entries_of l.fn.store.pages l.fn.lun l.fn.first (l.lba - l.fn.first);
+  from : l.fn.first ≤ l.lba;
+  pages : l.store.pages ≡ l.fn.store.pages;
+  same : IsSameStore l.fn.store l.store;
+  calls : l.store.calls ≡ l.fn.store.calls;
+  faults : l.store.faults ≡ l.fn.store.faults;
+  room : vec_capacity l.fn.held ≤ vec_capacity l.held;
+}

@@ -1,5 +1,5 @@
 -- What a step leaves, whatever it came to.
-use Rattle.std.proofs.Common.{◌≡◌, ℕ, ◌+◌, ◌-◌, ◌*◌, ◌/◌, ◌<◌, ◌≤◌, Bool, true, false, List, [], ◌∷◌, ◌++◌, refl, sym, ◌∙◌, ap, subst, arith}
+use Rattle.std.proofs.Common.{◌≡◌, ℕ, ◌+◌, ◌-◌, ◌*◌, ◌/◌, ◌<◌, ◌≤◌, Bool, true, false, List, [], ◌∷◌, ◌++◌, length, length-set, refl, sym, ◌∙◌, ap, subst, arith}
 use Rattle.std.specs.Prelude.{sum_by, if◌then◌else◌}
 use Rattle.std.specs.Bool.{OnFalse}
 use Rattle.std.specs.List.{AllByRecursion}
@@ -91,7 +91,7 @@ pub data_left : (lim : Limits) (task : Task) (come : ℕ) (others : List Task) �
     → sum_by (steps_of lim) (record task { come = come } ∷ others) ≡ sum_by (steps_of lim) (task ∷ others)
 data_left lim task come others same =
     let head : steps_of lim (record task { come = come }) ≡ steps_of lim task = ap (λ (b : Bool). (bytes_given lim task.command - task.sent + 4095) / 4096 + (if b then 1 else 0)
-        + (bytes_taken task.command - task.asked) / 4096 + (bytes_taken task.command - 4096 * task.programmed) / 4096 + 1) same in
+    + (bytes_taken task.command - task.asked) / 4096 + (bytes_taken task.command - 4096 * task.programmed) / 4096 + 1) same in
     sum_by-cons (steps_of lim) (record task { come = come }) others ∙ (ap (λ (n : ℕ). n + sum_by (steps_of lim) others) head ∙ sym (sum_by-cons (steps_of lim) task others))
 
 pub still_tries : (task : Task) (command : Cdb) (come : ℕ) → tries_entry_of command (record task { come = come }) ≡ tries_entry_of command task
@@ -108,3 +108,15 @@ still_tries task InactAll come = refl
 
 pub ended_left : (lim : Limits) (old now : List Task) (task : Task) (others : List Task) → old ≡ task ∷ others → now ≡ others → sum_by (steps_of lim) now < sum_by (steps_of lim) old
 ended_left lim old now task others was gone = rw (was, gone) (less_without (steps_of lim) task others (some_left lim task))
+
+-- a step leaves the chip as many pages as it had
+pub advanced_whole : (lim : Limits) (old new : StoreState) (held held_now : List ℕ) (task : Task) (progress : Progress) (out : List ℕ) → Advances lim old new held held_now task progress out → length new.pages ≡ length old.pages
+advanced_whole lim old new held held_now task (Shown rest) out advances = ap length advances.1
+advanced_whole lim old new held held_now task (Found rest) out advances = ap length advances.1
+advanced_whole lim old new held held_now task (Missed rest) out advances = ap length advances.1
+advanced_whole lim old new held held_now task (Listed rest) out advances = ap length advances.2
+advanced_whole lim old new held held_now task (Told rest) out advances = ap (λ (z : StoreState). length z.pages) advances.1
+advanced_whole lim old new held held_now task (Asked rest) out advances = ap (λ (z : StoreState). length z.pages) advances.2
+advanced_whole lim old new held held_now task (Programmed rest) out advances = ap length advances.1.program.programmed ∙ length-set old.pages _ _
+advanced_whole lim old new held held_now task (Ended reply) out advances = ap length advances.1
+advanced_whole lim old new held held_now task (Failed op reply) out advances = ap length advances.1

@@ -1,4 +1,5 @@
 pub mod Commands
+pub mod Entries
 pub mod Going
 pub mod Harmless
 pub mod Leaving

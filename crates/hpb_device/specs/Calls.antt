@@ -14,12 +14,13 @@ use Rattle.hpb_device.specs.declared.reply.Reply.TheVariants.{Check}
 use Rattle.hpb_device.specs.declared.advance.Progress.{Progress}
 use Rattle.hpb_device.specs.declared.advance.Progress.TheVariants.{Shown, Found, Missed, Listed, Told, Asked, Programmed, Ended, Failed}
 use Rattle.hpb_device.specs.Accept.{IsBegun, IsNextPiece}
+use Rattle.hpb_device.specs.Counts.{counted}
 use Rattle.hpb_device.specs.Advance.{Advances, IsSameStore, MakesACallAtMost}
 use Rattle.hpb_device.specs.Limits.{limits_of}
 use Rattle.hpb_device.specs.Reply.{reply_upiu}
 use Rattle.hpb_device.specs.Standing.{sizes_of}
 use Rattle.hpb_device.specs.State.{DeviceState, steps_left}
-use Rattle.hpb_device.specs.Task.{WaitsForData, IsTaskOk}
+use Rattle.hpb_device.specs.Task.{WaitsForData, IsTaskOk, tries_entry}
 
 -- a command was kept, last in order, where there was room; no more steps are left than it takes at most
 pub record Keeps (old new : DeviceState) (bytes : List ℕ) : Type 0 where
@@ -90,6 +91,7 @@ pub record GoesOn (old new : DeviceState) (result : Stepped) (out : List ℕ) : 
   pub leaves : Leaves progress others new.tasks new.held result out
   pub same : IsSameStore old.store new.store
   pub calls : MakesACallAtMost old.store new.store
+  pub counts : new.counts ≡ counted old.counts (tries_entry task) progress
 
 abbrev pub Steps : (old new : DeviceState) → Stepped → (out : List ℕ) → Type 0
 Steps old new result out = OnFalse result.idle (GoesOn old new result out)

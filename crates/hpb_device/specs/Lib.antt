@@ -1,6 +1,8 @@
 pub mod Accept
 pub mod Advance
 pub mod Calls
+pub mod Counts
+pub mod Entries
 pub mod Keeps
 pub mod Limits
 pub mod Reply

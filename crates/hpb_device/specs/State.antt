@@ -1,28 +1,32 @@
 -- What a device is, to those who call it, and what it keeps true of its fields.
-use Rattle.std.specs.Prelude.{⊤, ◌≡◌, ℕ, ◌+◌, ◌≤◌, List, [], ◌∷◌, ◌++◌, sum_by}
+use Rattle.std.specs.Prelude.{⊤, ◌≡◌, ℕ, ◌*◌, ◌≤◌, List, [], ◌∷◌, length, sum_by}
 use Rattle.hpb_outside.specs.declared.errors.NewFault.{NewFault}
 use Rattle.hpb_outside.specs.declared.errors.NewFault.TheVariants as fault
 use Rattle.flash_pages.specs.declared.chip.Geometry.{Geometry}
 use Rattle.flash_store.specs.Store.{StoreState, CanServe}
 use Rattle.region_state.specs.declared.shape.Shape.{Shape}
 use Rattle.region_state.specs.Shape.{IsWithinLimits}
+use Rattle.hpb_device.specs.declared.counts.Counts.{Counts}
 use Rattle.hpb_device.specs.declared.task.Task.{Task}
 use Rattle.hpb_device.specs.declared.task.TheConstants.{BURST_BYTES}
 use Rattle.hpb_device.specs.Limits.{limits_of}
 use Rattle.hpb_device.specs.Task.{WaitsForData, IsQueue, steps_of}
 
--- its store, the shape of each logical unit, the tasks in order of acceptance, and the data of the first one that came last
+-- its store, the shape of each logical unit, the tasks in order of acceptance, the data of the first one that came last, and what
+-- is counted
 pub record DeviceState : Type 0 where
   pub store : StoreState
   pub shape : Shape
   pub tasks : List Task
   pub held : List ℕ
+  pub counts : Counts
 
 pub record IsDevice (store : StoreState) (shape : Shape) (luns : ℕ) (tasks : List Task) (held : List ℕ) (room : ℕ) : Type 0 where
   pub limits : IsWithinLimits shape
   pub luns_served : store.luns ≡ luns
   pub units_served : store.units ≡ shape.units
   pub served : CanServe store.geometry luns shape.units
+  pub whole : length store.pages ≡ store.geometry.blocks * store.geometry.pages
   pub queue : IsQueue luns (limits_of shape) held tasks
   pub burst : BURST_BYTES ≤ room
 

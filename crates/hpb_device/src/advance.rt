@@ -227,13 +227,7 @@ fn first_listed(command: Cdb, limits: Limits) -> u32
 }
 
 /// Puts the entries of blocks into an empty buffer.
-fn push_entries<F: Flash>(
-    store: &mut Store<F>,
-    held: &mut Vec<u8>,
-    lun: u8,
-    first: u32,
-    count: u32,
-)
+fn push_entries<F: Flash>(store: &mut Store<F>, held: &mut Vec<u8>, lun: u8, first: u32, count: u32)
     requires lun { lun < store.old.luns }
     requires blocks { first + count ≤ store.old.units }
     requires few_blocks { store.old.units < 2 ^ 32 }

@@ -11,11 +11,13 @@ ghost use Rattle.flat_unit.specs.Stands.{First};
 ghost use Rattle.flat_unit.specs.Task.{Task as Waiting};
 ghost use Rattle.hpb_device.specs.Limits.{limits_of};
 ghost use Rattle.hpb_device.specs.Calls.{Leaves, Stays};
+ghost use Rattle.hpb_device.specs.Counts.{no_counts};
 ghost use Rattle.hpb_device.specs.State.{AtRest, IsNewFault, steps_left};
 ghost use Rattle.std.specs.Bool.{OnFalse};
 
 use crate::accept::{Verdict, judge};
 use crate::advance::{Progress, advance};
+use crate::counts::Counts;
 use crate::queue::{end_head, head_of, keep_head};
 use crate::reply::{Reply, put_reply};
 use crate::task::{BURST_BYTES, TASKS, Task};
@@ -94,6 +96,7 @@ pub struct Device<F: Flash> {
     luns: u8,
     tasks: ArrayVec<Task, TASKS>,
     held: Vec<u8>,
+    counts: Counts,
 }
 
 impl<F: Flash> Model for Device<F> {
@@ -102,7 +105,7 @@ impl<F: Flash> Model for Device<F> {
 
     ghost Value = { DeviceState };
 
-    ghost view = { λ d. record { store = d.store; shape = d.shape; tasks = d.tasks.items; held = d.held.items } };
+    ghost view = { λ d. record { store = d.store; shape = d.shape; tasks = d.tasks.items; held = d.held.items; counts = d.counts } };
 
     ghost invariant = { λ d. IsDevice d.store d.shape d.luns d.tasks.items d.held.items (vec_capacity d.held) };
 }
@@ -110,6 +113,7 @@ impl<F: Flash> Model for Device<F> {
 impl<F: Flash> Device<F> {
     ghost use Rattle.hpb_device.specs.Accept.{TakesPiece};
     ghost use Rattle.hpb_device.specs.Calls.{Receives, Steps, TakesData};
+    ghost use Rattle.hpb_device.specs.Entries.{EntriesStand};
     ghost use Rattle.hpb_device.specs.Keeps.{KeepsTasks};
     ghost use Rattle.hpb_device.specs.Standing.{DeviceStands, sizes_of, answer_events, group_of};
 
@@ -123,6 +127,7 @@ impl<F: Flash> Device<F> {
         ensures begun { IfOk result (λ device. IsNewFault NewFault.Memory (F.geometry flash) luns shape) }
 
         ensures tasks { IfOk result (λ device. device.tasks ≡ []) }
+        ensures counts { IfOk result (λ device. device.counts ≡ no_counts) }
         ensures shape { IfOk result (λ device. device.shape ≡ shape) }
         ensures luns { IfOk result (λ device. device.store.luns ≡ luns) }
         ensures units { IfOk result (λ device. device.store.units ≡ shape.units) }
@@ -147,6 +152,7 @@ impl<F: Flash> Device<F> {
                 luns,
                 tasks: ArrayVec::new(),
                 held,
+                counts: Counts::ZERO,
             }),
             Err(_) => Err((store.into_flash(), NewFault::Memory)),
         }
@@ -169,8 +175,11 @@ impl<F: Flash> Device<F> {
         ensures answers { (tasks : List Waiting) → KeepsTasks self.old.tasks self.old.held tasks
             → answers_to (sizes_of self.old) true tasks bytes.now ≡ answer_events result out.new }
         ensures receives { Receives self.old self.new bytes.now result out.new }
+        ensures entries { (e : History) → EntriesStand self.old e
+            → EntriesStand self.new (followed_by (e ▹ Host bytes.now) (answer_events result out.new)) }
         ensures store { self.new.store ≡ self.old.store }
         ensures shape { self.new.shape ≡ self.old.shape }
+        ensures counts { self.new.counts ≡ self.old.counts }
     {
         let limits = limits_of(self.shape);
         match judge(limits, self.luns, &self.tasks, bytes) {
@@ -200,6 +209,7 @@ impl<F: Flash> Device<F> {
         ensures taken { TakesData self.old self.new segment.now }
         ensures store { self.new.store ≡ self.old.store }
         ensures shape { self.new.shape ≡ self.old.shape }
+        ensures counts { self.new.counts ≡ self.old.counts }
     {
         if let Some(task) = head_of(&self.tasks) {
             self.held.extend_from_slice(segment).unwrap();
@@ -211,7 +221,10 @@ impl<F: Flash> Device<F> {
     pub fn step(&mut self, out: &mut UpiuBuf) -> Stepped
         ensures stands { (first : First) (e : History) → DeviceStands self.old first e
             → DeviceStands self.new first (followed_by e (events_of (group_of result out.new))) }
+        ensures entries { (first : First) (e : History) → DeviceStands self.old first e → EntriesStand self.old e
+            → EntriesStand self.new (followed_by e (events_of (group_of result out.new))) }
         ensures idle { IsTrue result.idle ↔ AtRest self.old }
+        ensures nothing { IsTrue result.idle → result ≡ record { idle = true; failed = None; moved = None; sent = false } }
         ensures unchanged { IsTrue result.idle → self.new ≡ self.old }
         ensures steps { Steps self.old self.new result out.new }
         ensures fewer { OnFalse result.idle (steps_left self.new < steps_left self.old) }
@@ -224,8 +237,18 @@ impl<F: Flash> Device<F> {
             return Stepped::idle();
         }
         let limits = limits_of(self.shape);
+        let tried = task.tries_entry();
         let progress = advance(&mut self.store, &mut self.held, task, limits, out);
+        let counts = self.counts.after(progress, tried);
+        self.counts = counts;
         leave(progress, &mut self.tasks, &mut self.held, out)
+    }
+
+    /// What was counted since the device was made.
+    pub fn counts(&self) -> Counts
+        ensures { result ≡ self.now.counts }
+    {
+        self.counts
     }
 
     /// What the device needs to go on.

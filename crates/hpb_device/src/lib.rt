@@ -3,11 +3,13 @@
 
 mod accept;
 mod advance;
+mod counts;
 mod device;
 mod queue;
 mod reply;
 mod task;
 
+pub use counts::Counts;
 pub use device::{Device, Sent, Stepped, Waits};
 
 #[cfg(test)]

@@ -86,8 +86,8 @@ const REJECTED: [(&str, &str); 10] = [
     ("U z z z z z z z z", "20000000 z z z z z z z"),
 ];
 
-/// Commands that are refused, one for each test: the unit, the opcode, the range, and the length that is expected.
-const REFUSED: [(&str, &str); 6] = [
+/// Commands that are refused, one for each test: the unit, the opcode, the fields, the range, and the length that is expected.
+const REFUSED: [(&str, &str); 7] = [
     (
         "U 01400103 z z z z z z z",
         "21000103 00000102 00000014 z z z z z 00127000 05000000 000a0000 00002500 z",
@@ -97,8 +97,12 @@ const REFUSED: [(&str, &str); 6] = [
         "21200003 00000102 00000014 00001000 z z z z 00127000 05000000 000a0000 00002000 z",
     ),
     (
-        "U 01400003 z z 00001000 f8000000 00030000 z 00010100",
-        "21200003 00000102 00000014 00001000 z z z z 00127000 05000000 000a0000 00002000 z",
+        "U 01400003 z z 00000010 fa020000 00007f00 10000000 z",
+        "21200003 00000102 00000014 00000010 z z z z 00127000 05000000 000a0000 00002000 z",
+    ),
+    (
+        "U 01400003 z z 00001000 f8000000 00030000 z 00010180",
+        "21200003 00000102 00000014 00001000 z z z z 00127000 05000000 000a0000 00002400 z",
     ),
     (
         "U 01400003 z z z 35000000 00130000 02000000 z",
@@ -208,6 +212,87 @@ const TWO_UNITS: [(&str, &str); 8] = [
     ("D", ""),
 ];
 
+/// The entries of a subregion that the end of the unit cuts, and a subregion past it.
+const LISTED: [(&str, &str); 3] = [
+    ("U 01400007 z z 00000010 f9010002 00010000 10000000 z", ""),
+    (
+        "D",
+        "22000007 z 00000008 z 00000008 z z z ffffffff ffffffff / 21200007 z z 00000008 z z z z",
+    ),
+    (
+        "U 01400007 z z 00000010 f9010002 00020000 10000000 z",
+        "21200007 00000102 00000014 00000010 z z z z 00127000 05000000 000a0000 00002400 z",
+    ),
+];
+
+/// Entries of a unit of 600 blocks: none of them, one and a half, and more than a DATA IN carries.
+const LISTED_IN_PIECES: [(&str, &str); 6] = [
+    ("U 01400001 z z z f9010000 z z z", ""),
+    ("D", "21000001 z z z z z z z"),
+    ("U 01400002 z z 0000000c f9010000 z 0c000000 z", ""),
+    (
+        "D",
+        "22000002 z 0000000c z 0000000c z z z ffffffff ffffffff ffffffff / 21000002 z z z z z z z",
+    ),
+    ("U 01400003 z z 00001008 f9010000 00000010 08000000 z", ""),
+    (
+        "D",
+        "22000003 z 00001000 z 00001000 z z z ffs / 22000003 z 00000008 00001000 00000008 z z z ffffffff ffffffff / 21000003 z z z z z z z",
+    ),
+];
+
+/// Blocks at LBA 2 and LBA 3, on pages 0 and 1, and reads of LBA 3 with the entries 1, 0, 2^64 - 1 and 32.
+const BY_ENTRY: [(&str, &str); 16] = [
+    ("U 01200002 z z 00001000 2a000000 00020000 01000000 z", ""),
+    ("D", "31000002 z z z 00001000 z z z"),
+    ("U 02000002 z 00001000 z 00001000 z z z 11s", ""),
+    ("D", "21000002 z z z z z z z"),
+    ("U 01200002 z z 00001000 2a000000 00030000 01000000 z", ""),
+    ("D", "31000002 z z z 00001000 z z z"),
+    ("U 02000002 z 00001000 z 00001000 z z z 22s", ""),
+    ("D", "21000002 z z z z z z z"),
+    ("U 01400009 z z 00001000 f8000000 00030000 z 00010100", ""),
+    (
+        "D",
+        "22000009 z 00001000 z 00001000 z z z 22s / 21000009 z z z z z z z",
+    ),
+    ("U 01400009 z z 00001000 f8000000 00030000 z 00000100", ""),
+    (
+        "D",
+        "22000009 z 00001000 z 00001000 z z z 22s / 21000009 z z z z z z z",
+    ),
+    (
+        "U 01400009 z z 00001000 f8000000 0003ffff ffffffff ffff0100",
+        "",
+    ),
+    (
+        "D",
+        "22000009 z 00001000 z 00001000 z z z 22s / 21000009 z z z z z z z",
+    ),
+    ("U 01400009 z z 00001000 f8000000 00030000 z 00200100", ""),
+    (
+        "D",
+        "22000009 z 00001000 z 00001000 z z z 22s / 21000009 z z z z z z z",
+    ),
+];
+
+/// LBA 3 is written twice, on pages 0 and 1, and is read with the entry 0.
+const STALE: [(&str, &str); 10] = [
+    ("U 01200002 z z 00001000 2a000000 00030000 01000000 z", ""),
+    ("D", "31000002 z z z 00001000 z z z"),
+    ("U 02000002 z 00001000 z 00001000 z z z 11s", ""),
+    ("D", "21000002 z z z z z z z"),
+    ("U 01200002 z z 00001000 2a000000 00030000 01000000 z", ""),
+    ("D", "31000002 z z z 00001000 z z z"),
+    ("U 02000002 z 00001000 z 00001000 z z z 22s", ""),
+    ("D", "21000002 z z z z z z z"),
+    ("U 01400009 z z 00001000 f8000000 00030000 z 00000100", ""),
+    (
+        "D",
+        "22000009 z 00001000 z 00001000 z z z 22s / 21000009 z z z z z z z",
+    ),
+];
+
 /// Adds the bytes of words: `z` is four bytes 00h, a byte with an `s` a block of it, `/` nothing, `!read` a failed read, and
 /// six or eight digits are as many bytes as they name.
 fn push_words(out: &mut Vec<u8>, words: &str) -> Result<(), Fail> {
@@ -219,6 +304,7 @@ fn push_words(out: &mut Vec<u8>, words: &str) -> Result<(), Fail> {
             "11s" => out.extend_from_slice(&[0x11; 4096])?,
             "22s" => out.extend_from_slice(&[0x22; 4096])?,
             "a5s" => out.extend_from_slice(&[0xA5; 4096])?,
+            "ffs" => out.extend_from_slice(&[0xFF; 4096])?,
             "000000" => out.extend_from_slice(&[0; 3])?,
             _ => match u32::from_str_radix(word, 16) {
                 Ok(number) => out.extend_from_slice(&number.to_be_bytes())?,
@@ -229,6 +315,35 @@ fn push_words(out: &mut Vec<u8>, words: &str) -> Result<(), Fail> {
     Ok(())
 }
 
+/// Units of so many blocks, whose regions and subregions are large.
+fn shape(units: u32) -> Shape {
+    Shape {
+        units,
+        region_exp: 13,
+        sub_exp: 13,
+        held: 4,
+        mode: Mode::Device,
+    }
+}
+
+/// A device of so many units over a chip of which these calls fail.
+fn device_on(
+    alloc: Global,
+    geometry: Geometry,
+    shape: Shape,
+    luns: u8,
+    fail_at: Vec<u64>,
+) -> Result<Device<MemFlash>, Fail> {
+    if !geometry.is_within_limits() {
+        return Err(Fail::new("no chip"));
+    }
+    let flash = MemFlash::new(alloc, geometry, fail_at)?;
+    match Device::new(alloc, flash, shape, luns) {
+        Ok(device) => Ok(device),
+        Err(_) => Err(Fail::new("no device")),
+    }
+}
+
 /// A device of so many units of so many blocks, over a chip of which these calls fail.
 fn device(
     alloc: Global,
@@ -236,18 +351,7 @@ fn device(
     units: u32,
     fail_at: Vec<u64>,
 ) -> Result<Device<MemFlash>, Fail> {
-    let shape = Shape {
-        units,
-        region_exp: 10,
-        sub_exp: 8,
-        held: 4,
-        mode: Mode::Device,
-    };
-    let flash = MemFlash::new(alloc, CHIP, fail_at)?;
-    match Device::new(alloc, flash, shape, luns) {
-        Ok(device) => Ok(device),
-        Err(_) => Err(Fail::new("no device")),
-    }
+    device_on(alloc, CHIP, shape(units), luns, fail_at)
 }
 
 /// Makes one step, and adds what it tells and sends.
@@ -384,5 +488,51 @@ fn thirty_two_tasks_are_kept(rt: HostRuntime) -> Result<(), Fail> {
     ];
     assert_eq!(rt; first_other(rt.alloc(), &mut device, &lines)?, None);
     assert_eq!(rt; device.waits(), Waits::Step);
+    Ok(())
+}
+
+#[test]
+fn entries_are_listed_as_they_are(rt: HostRuntime) -> Result<(), Fail> {
+    let small = Shape {
+        region_exp: 6,
+        sub_exp: 4,
+        ..shape(19)
+    };
+    let mut device = device_on(rt.alloc(), CHIP, small, 1, Vec::new(rt.alloc()))?;
+    assert_eq!(rt; first_other(rt.alloc(), &mut device, &LISTED)?, None);
+    let wide = Geometry {
+        blocks: 16,
+        pages: 64,
+    };
+    let mut device = device_on(rt.alloc(), wide, shape(600), 1, Vec::new(rt.alloc()))?;
+    assert_eq!(rt;
+        first_other(rt.alloc(), &mut device, &LISTED_IN_PIECES)?,
+        None
+    );
+    Ok(())
+}
+
+#[test]
+fn a_read_by_its_entry_looks_nothing_up(rt: HostRuntime) -> Result<(), Fail> {
+    let mut current = device(rt.alloc(), 1, 20, Vec::new(rt.alloc()))?;
+    assert_eq!(rt; first_other(rt.alloc(), &mut current, &BY_ENTRY)?, None);
+    let counts = Counts {
+        steps: 17,
+        lookups: 3,
+        entries: 1,
+        moved: 0,
+        erased: 0,
+    };
+    assert_eq!(rt; current.counts(), counts);
+    let mut stale = device(rt.alloc(), 1, 20, Vec::new(rt.alloc()))?;
+    assert_eq!(rt; first_other(rt.alloc(), &mut stale, &STALE)?, None);
+    let counts = Counts {
+        steps: 9,
+        lookups: 1,
+        entries: 0,
+        moved: 0,
+        erased: 0,
+    };
+    assert_eq!(rt; stale.counts(), counts);
     Ok(())
 }

@@ -26,8 +26,7 @@ returns-clause-advances g c =
     let enough : c.div_ceil-entries.result ≡ (count + 7) / 8 = search rules in
     let listed : c.push_entries.new.held.items ≡ entries_of c.args.store.now.pages task.lun (first_listed c.args.limits task.command + task.sent / 8) ((count + 7) / 8) =
     c.push_entries.ensures.entries ∙ (ap (λ (n : ℕ). entries_of c.args.store.now.pages task.lun (n + task.sent / 8) c.div_ceil-entries.result) first
-    ∙ ap (entries_of c.args.store.now.pages task.lun (first_listed c.args.limits task.command + task.sent / 8)) enough) in
-    (
+    ∙ ap (entries_of c.args.store.now.pages task.lun (first_listed c.args.limits task.command + task.sent / 8)) enough) in (
       count,
       record {
         read_buffer = c.requires.command;

@@ -26,8 +26,8 @@ loop-lba-preserved g c =
     let added : c.extend_from_slice.new.self.items ≡ c.loop-lba.held.items ++ c.to_be_bytes.result = search rules in
     record {
       entries = added ∙ (ap (λ (xs : List ℕ). xs ++ c.to_be_bytes.result) c.loop-lba.invariant.entries
-      ∙ (ap (λ (xs : List ℕ). entries_of c.args.store.now.pages c.args.lun c.args.first count ++ xs) (bytes ∙ ap (big_bytes 8) entry)
-      ∙ (sym (entries_more entry_at c.args.first count) ∙ ap (entries_of c.args.store.now.pages c.args.lun c.args.first) (sym one_more))));
+          ∙ (ap (λ (xs : List ℕ). entries_of c.args.store.now.pages c.args.lun c.args.first count ++ xs) (bytes ∙ ap (big_bytes 8) entry)
+          ∙ (sym (entries_more entry_at c.args.first count) ∙ ap (entries_of c.args.store.now.pages c.args.lun c.args.first) (sym one_more))));
       from = omega (arith, c.loop-lba.invariant.from);
       pages = search rules;
       same = search rules;

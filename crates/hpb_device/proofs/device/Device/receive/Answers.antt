@@ -18,6 +18,8 @@ use Rattle.hpb_device.specs.Reply.{reply_upiu}
 use Rattle.hpb_device.specs.Standing.{sizes_of, DeviceStands}
 use Rattle.hpb_device.specs.State.{DeviceState, steps_left}
 use Rattle.hpb_device.proofs.Commands.{ends}
+use Rattle.hpb_device.proofs.Entries.{answered_entries, ending_entries, kept_entries}
+use Rattle.hpb_device.specs.Entries.{EntriesStand}
 use Rattle.hpb_device.proofs.Going.{keeps_left}
 use Rattle.hpb_device.proofs.Leaving.{ended_left}
 use Rattle.hpb_device.proofs.Receiving.{queue_more, waits_begun, stands_kept, stands_with_data, stands_with_reply, stands_without_head, owes_events, no_effects, device_is, sizes_are, stands_same, answers_same}
@@ -36,6 +38,7 @@ invariant_of-self g c =
       luns_served = c.self.invariant.luns_served;
       units_served = c.self.invariant.units_served;
       served = c.self.invariant.served;
+      whole = c.self.invariant.whole;
       queue = rw pushed (queue_more s.luns (limits_of s.shape) s.tasks.items s.held.items task c.self.invariant.queue waits);
       burst = c.self.invariant.burst;
     }
@@ -43,7 +46,7 @@ invariant_of-self g c =
 pub returns-in-Keep-clause-stands : goal.returns-in-Keep-clause-stands
 returns-in-Keep-clause-stands g c = λ first e at.
     let s = c.self.inside in
-    let d : DeviceState = record { store = s.store; shape = s.shape; tasks = s.tasks.items; held = s.held.items } in
+    let d : DeviceState = record { store = s.store; shape = s.shape; tasks = s.tasks.items; held = s.held.items; counts = s.counts } in
     let lent : c.deref.result.now ≡ d.tasks = search rules in
     let before : DeviceStands d first e = subst (λ (x : DeviceState). DeviceStands x first e) (sym c.self.view_is) at in
     let sized = sizes_are d c.limits_of-limits.result s.luns c.limits_of-limits.ensures c.self.invariant.luns_served in
@@ -63,7 +66,7 @@ take_data-requires g c =
 pub returns-in-Data-clause-stands : goal.returns-in-Data-clause-stands
 returns-in-Data-clause-stands g c = λ first e at.
     let s = c.self.inside in
-    let d : DeviceState = record { store = s.store; shape = s.shape; tasks = s.tasks.items; held = s.held.items } in
+    let d : DeviceState = record { store = s.store; shape = s.shape; tasks = s.tasks.items; held = s.held.items; counts = s.counts } in
     let lent : c.deref.result.now ≡ d.tasks = search rules in
     let segment = c.in-Data.segment.now in
     let before : DeviceStands d first e = subst (λ (x : DeviceState). DeviceStands x first e) (sym c.self.view_is) at in
@@ -78,13 +81,14 @@ returns-in-Data-clause-stands g c = λ first e at.
     let now = stands_with_data d task others c.args.bytes.now segment first e is queue.1.part taken before in
     let same = device_is d c.take_data.new.self (record task { come = task.come + length segment } ∷ others) (d.held ++ segment)
     (c.take_data.ensures.store ∙ ap (λ (x : DeviceState). x.store) (sym c.self.view_is)) (c.take_data.ensures.shape ∙ ap (λ (x : DeviceState). x.shape) (sym c.self.view_is))
-    data_taken.kept (data_taken.held ∙ ap (λ (x : DeviceState). x.held ++ segment) (sym c.self.view_is)) in
+    data_taken.kept (data_taken.held ∙ ap (λ (x : DeviceState). x.held ++ segment) (sym c.self.view_is))
+    (c.take_data.ensures.counts ∙ ap (λ (x : DeviceState). x.counts) (sym c.self.view_is)) in
     stands_same _ _ _ _ same now
 
 pub returns-in-Answer-clause-stands : goal.returns-in-Answer-clause-stands
 returns-in-Answer-clause-stands g c = λ first e at.
     let s = c.self.inside in
-    let d : DeviceState = record { store = s.store; shape = s.shape; tasks = s.tasks.items; held = s.held.items } in
+    let d : DeviceState = record { store = s.store; shape = s.shape; tasks = s.tasks.items; held = s.held.items; counts = s.counts } in
     let lent : c.deref.result.now ≡ d.tasks = search rules in
     let before : DeviceStands d first e = subst (λ (x : DeviceState). DeviceStands x first e) (sym c.self.view_is) at in
     let sized = sizes_are d c.limits_of-limits.result s.luns c.limits_of-limits.ensures c.self.invariant.luns_served in
@@ -96,7 +100,7 @@ returns-in-Answer-clause-stands g c = λ first e at.
 pub returns-in-Answer-clause-answers : goal.returns-in-Answer-clause-answers
 returns-in-Answer-clause-answers g c = λ tasks keeps.
     let s = c.self.inside in
-    let d : DeviceState = record { store = s.store; shape = s.shape; tasks = s.tasks.items; held = s.held.items } in
+    let d : DeviceState = record { store = s.store; shape = s.shape; tasks = s.tasks.items; held = s.held.items; counts = s.counts } in
     let lent : c.deref.result.now ≡ d.tasks = search rules in
     let sized = sizes_are d c.limits_of-limits.result s.luns c.limits_of-limits.ensures c.self.invariant.luns_served in
     let before : KeepsTasks d.tasks d.held tasks = subst (λ (x : DeviceState). KeepsTasks x.tasks x.held tasks) (sym c.self.view_is) keeps in
@@ -107,7 +111,7 @@ returns-in-Answer-clause-answers g c = λ tasks keeps.
 pub returns-in-Keep-clause-receives : goal.returns-in-Keep-clause-receives
 returns-in-Keep-clause-receives g c =
     let s = c.self.inside in
-    let d : DeviceState = record { store = s.store; shape = s.shape; tasks = s.tasks.items; held = s.held.items } in
+    let d : DeviceState = record { store = s.store; shape = s.shape; tasks = s.tasks.items; held = s.held.items; counts = s.counts } in
     let lent : c.deref.result.now ≡ d.tasks = search rules in
     let task = c.in-Keep.task in
     let pushed : c.push.new.self.items ≡ d.tasks ++ task ∷ [] = c.push.ensures.items in
@@ -117,17 +121,17 @@ returns-in-Keep-clause-receives g c =
     let some : 1 ≤ d.store.geometry.pages = let limits = c.self.invariant.served.limits in omega (arith, limits.least_pages) in
     let left : sum_by (steps_of (limits_of d.shape)) c.push.new.self.items ≤ steps_left d + bound (sizes_of d) task.command =
     subst (λ (ts : List Task). sum_by (steps_of (limits_of d.shape)) ts ≤ steps_left d + bound (sizes_of d) task.command) (sym pushed) (keeps_left d task some) in
-    let now : DeviceState = record { store = s.store; shape = s.shape; tasks = c.push.new.self.items; held = s.held.items } in
+    let now : DeviceState = record { store = s.store; shape = s.shape; tasks = c.push.new.self.items; held = s.held.items; counts = s.counts } in
     let keeps : Keeps d now c.args.bytes.now = record { task = task; room = subst (λ (ts : List Task). length ts < 32) lent c.in-Keep.ensures.verdict.0; begun = begun; kept = pushed; held = refl; left = left } in
     inl (subst (λ (x : DeviceState). Keeps x now c.args.bytes.now) c.self.view_is keeps)
 
 pub returns-in-End-clause-receives : goal.returns-in-End-clause-receives
 returns-in-End-clause-receives g c =
     let s = c.self.inside in
-    let d : DeviceState = record { store = s.store; shape = s.shape; tasks = s.tasks.items; held = s.held.items } in
+    let d : DeviceState = record { store = s.store; shape = s.shape; tasks = s.tasks.items; held = s.held.items; counts = s.counts } in
     let lent : c.deref.result.now ≡ d.tasks = search rules in
     let ended = ends d.tasks c.in-End.reply (subst (λ (ts : List Task). EndsFirst ts c.in-End.reply) lent c.in-End.ensures.verdict) in
-    let now : DeviceState = record { store = s.store; shape = s.shape; tasks = c.end_head.new.tasks.items; held = c.end_head.new.held.items } in
+    let now : DeviceState = record { store = s.store; shape = s.shape; tasks = c.end_head.new.tasks.items; held = c.end_head.new.held.items; counts = s.counts } in
     let sent = c.put_reply-in-End.ensures ∙ ap (λ (r : Reply). upiu_out (reply_upiu r)) ended.4.2 in
     let gone : now.tasks ≡ ended.1 = c.end_head.ensures.tasks ∙ ap (drop 1) ended.2 in
     let fewer : steps_left now < steps_left d =
@@ -147,7 +151,7 @@ returns-in-End-clause-receives g c =
 pub returns-in-End-clause-stands : goal.returns-in-End-clause-stands
 returns-in-End-clause-stands g c = λ first e at.
     let s = c.self.inside in
-    let d : DeviceState = record { store = s.store; shape = s.shape; tasks = s.tasks.items; held = s.held.items } in
+    let d : DeviceState = record { store = s.store; shape = s.shape; tasks = s.tasks.items; held = s.held.items; counts = s.counts } in
     let lent : c.deref.result.now ≡ d.tasks = search rules in
     let before : DeviceStands d first e = subst (λ (x : DeviceState). DeviceStands x first e) (sym c.self.view_is) at in
     let sized = sizes_are d c.limits_of-limits.result s.luns c.limits_of-limits.ensures c.self.invariant.luns_served in
@@ -164,10 +168,40 @@ returns-in-End-clause-stands g c = λ first e at.
 pub returns-in-End-clause-answers : goal.returns-in-End-clause-answers
 returns-in-End-clause-answers g c = λ tasks keeps.
     let s = c.self.inside in
-    let d : DeviceState = record { store = s.store; shape = s.shape; tasks = s.tasks.items; held = s.held.items } in
+    let d : DeviceState = record { store = s.store; shape = s.shape; tasks = s.tasks.items; held = s.held.items; counts = s.counts } in
     let lent : c.deref.result.now ≡ d.tasks = search rules in
     let sized = sizes_are d c.limits_of-limits.result s.luns c.limits_of-limits.ensures c.self.invariant.luns_served in
     let before : KeepsTasks d.tasks d.held tasks = subst (λ (x : DeviceState). KeepsTasks x.tasks x.held tasks) (sym c.self.view_is) keeps in
     let answers = subst (λ (z : Sizes). reply_of z true tasks c.args.bytes.now ≡ Some (reply_upiu c.in-End.reply)) sized (c.in-End.ensures.follows s.store.geometry d.held tasks (subst (λ (ts : List Task). KeepsTasks ts d.held tasks) (sym lent) before)) in
     let now = owes_events (sizes_of d) tasks c.args.bytes.now (reply_upiu c.in-End.reply) c.put_reply-in-End.new.out answers (no_effects d.store.luns (limits_of d.shape) d.store.geometry tasks c.args.bytes.now) c.put_reply-in-End.ensures in
     answers_same _ _ _ _ _ c.self.view_is now
+
+pub returns-in-Answer-clause-entries : goal.returns-in-Answer-clause-entries
+returns-in-Answer-clause-entries g c = λ e stand. answered_entries c.args.self.now c.args.bytes.now c.in-Answer.reply c.put_reply.new.out e c.put_reply.ensures stand
+
+pub returns-in-End-clause-entries : goal.returns-in-End-clause-entries
+returns-in-End-clause-entries g c = λ e stand.
+    let s = c.self.inside in
+    let d : DeviceState = record { store = s.store; shape = s.shape; tasks = s.tasks.items; held = s.held.items; counts = s.counts } in
+    let lent : c.deref.result.now ≡ d.tasks = search rules in
+    let ended = ends d.tasks c.in-End.reply (subst (λ (ts : List Task). EndsFirst ts c.in-End.reply) lent c.in-End.ensures.verdict) in
+    let now : DeviceState = record { store = s.store; shape = s.shape; tasks = c.end_head.new.tasks.items; held = c.end_head.new.held.items; counts = s.counts } in
+    let gone : now.tasks ≡ ended.1 = c.end_head.ensures.tasks ∙ ap (drop 1) ended.2 in
+    let ends_it : EndsHead d now c.put_reply-in-End.new.out = record {
+      task = ended.0;
+      others = ended.1;
+      was = ended.2;
+      waited = ended.3;
+      ended = gone;
+      residual = ended.4.0;
+      answer = c.put_reply-in-End.ensures ∙ ap (λ (r : Reply). upiu_out (reply_upiu r)) ended.4.2;
+      left = ended_left (limits_of d.shape) d.tasks now.tasks ended.0 ended.1 ended.2 gone;
+    } in
+    ending_entries d now s.luns (limits_of s.shape) c.args.bytes.now c.in-End.reply c.put_reply-in-End.new.out e c.self.invariant.queue ends_it c.put_reply-in-End.ensures refl refl
+    (subst (λ (x : DeviceState). EntriesStand x e) (sym c.self.view_is) stand)
+
+pub returns-in-Keep-clause-entries : goal.returns-in-Keep-clause-entries
+returns-in-Keep-clause-entries g c = λ e stand.
+    let store = ap (λ (x : DeviceState). x.store) c.self.view_is in
+    let shape = ap (λ (x : DeviceState). x.shape) c.self.view_is in
+    kept_entries c.args.self.now _ c.args.bytes.now e (returns-in-Keep-clause-receives g c) store shape stand

@@ -1,0 +1,477 @@
+-- A device's chip honours what the device has listed, after each call.
+use Rattle.std.proofs.Common.{◌≡◌, ◌⊎◌, ℕ, ◌+◌, ◌-◌, ◌*◌, ◌/◌, ◌%◌, ◌^◌, ◌<◌, ◌≤◌, ◌==◌, Bool, true, false, not, ◌&&◌, ◌||◌, cond, List, [], ◌∷◌, ◌++◌, length, length-take, map, take, Option, Some, None, refl, sym, ◌∙◌, ap, subst, arith, inl, inr}
+use Rattle.std.specs.Prelude.{unwrap_or, if◌then◌else◌}
+use Rattle.std.specs.Bool.{OnTrue}
+use Rattle.std.specs.List.{AllByRecursion}
+use Rattle.std.proofs.lemmas.Bool.{false≢true}
+use Rattle.std.proofs.lemmas.Bool.Decides.{nat_tests}
+use Rattle.flash_pages.specs.Chip.{Page, Written}
+use Rattle.flash_pages.specs.declared.chip.Spare.{Spare}
+use Rattle.flash_pages.specs.Place.{Place, IsPlace}
+use Rattle.flash_pages.specs.Unit.{current, next_seq}
+use Rattle.flash_pages.proofs.Programming.{current-inside, current-others, current-programmed}
+use Rattle.flash_store.specs.Entries.{IsHonoured, entry_for}
+use Rattle.flash_store.specs.Store.{ProgramsBlock}
+use Rattle.hpb_cdb.specs.declared.cdb.Cdb.{Cdb}
+use Rattle.hpb_cdb.specs.declared.cdb.Cdb.TheVariants.{TestReady, Read, Write, Capacity, Sync, HpbRead, ReadBuffer, Prefetch, InactOne, InactAll}
+use Rattle.upiu_wire.specs.declared.kind.Kind.TheVariants.{DataIn, ReadyToTransfer}
+use Rattle.upiu_wire.specs.Kind.{kind_of}
+use Rattle.upiu_wire.specs.Upiu.{upiu_at, upiu_out}
+use Rattle.upiu_wire.specs.Written.{data_upiu, transfer_upiu}
+use Rattle.flat_unit.specs.declared.event.Event.{Event}
+use Rattle.flat_unit.specs.declared.event.Event.TheVariants.{Device, Host, Failed as CallFailed}
+use Rattle.flat_unit.specs.Contents.{is_same}
+use Rattle.flat_unit.specs.Entries.{entries_from, first_block as first_block_of, is_entry, is_fresh, listed, listed_by, listed_in, no_page, spoils, was_listed}
+use Rattle.flat_unit.specs.Reply.{has_tag}
+use Rattle.flat_unit.proofs.History.{data-consistent, upiu_at-out}
+use Rattle.upiu_wire.specs.Upiu.{Upiu as UpiuValue}
+use Rattle.flat_unit.specs.History.{History, ◌▹◌}
+use Rattle.flat_unit.specs.Pages.{KeepsFresh}
+use Rattle.flat_unit.specs.Queue.{on_after, tasks_after}
+use Rattle.flat_unit.specs.Sizes.{Sizes}
+use Rattle.flat_unit.specs.Task.{Task as Waiting}
+use Rattle.flat_unit.proofs.Freshness.{fresh_event, fresh_programmed}
+use Rattle.flat_unit.proofs.Listing.{listed_entry}
+use Rattle.flat_unit.proofs.Paging.{with_page}
+use Rattle.flat_unit.proofs.Steps.{same_place}
+use Rattle.hpb_device.specs.declared.reply.Reply.{Reply}
+use Rattle.hpb_device.specs.declared.reply.Reply.TheVariants.{NopIn, Reject, Good, TaskSetFull, Check}
+use Rattle.hpb_device.specs.declared.task.Task.{Task}
+use Rattle.hpb_device.specs.declared.advance.Progress.{Progress}
+use Rattle.hpb_device.specs.declared.advance.Progress.TheVariants.{Shown, Found, Missed, Listed, Told, Asked, Programmed, Ended, Failed}
+use Rattle.hpb_device.specs.declared.device.Stepped.{Stepped}
+use Rattle.hpb_device.specs.Advance.{Advances, IsSameStore, ReadsBlocks, SendsBlock, capacity_of, entry_given, first_block, first_listed, nth_place}
+use Rattle.hpb_device.specs.Calls.{EndsHead, Keeps, Leaves, TakesData}
+use Rattle.hpb_device.specs.Entries.{EntriesStand, FreshHonoured, IsStale, TriedStale}
+use Rattle.hpb_device.specs.Keeps.{waiting_of}
+use Rattle.hpb_device.specs.Limits.{limits_of}
+use Rattle.hpb_device.specs.Standing.{DeviceStands, group_of, sizes_of}
+use Rattle.hpb_device.specs.State.{DeviceState}
+use Rattle.hpb_device.specs.Task.{IsQueue, IsWaiting, bytes_taken}
+use Rattle.hpb_device.proofs.Commands.{reads, tries_of}
+use Rattle.hpb_device.proofs.Stepping.{IsReady, flat, is_written, ready_of, sizes_same}
+use Rattle.flash_store.specs.Store.{StoreState}
+use Rattle.flash_pages.specs.Unit.{block_of}
+use Rattle.hpb_cdb.specs.declared.limits.Limits.{Limits}
+use Rattle.flat_unit.specs.Replays.{events_of}
+use Rattle.flat_unit.specs.History.{followed_by}
+use Rattle.flat_unit.specs.Stands.{First}
+use Rattle.std.specs.Prelude.{slice_range, slice_set}
+use Rattle.hpb_device.specs.Reply.{reply_upiu}
+
+-- an event that lists nothing
+abbrev pub ListsNone : Sizes → History → Event → Type 0
+ListsNone s e ev = (p : Place) → listed s (tasks_after s e) ev p ≡ None
+
+pub honoured_stays : (s : Sizes) (chip : List Page) (e : History) (ev : Event) → ListsNone s e ev → FreshHonoured s chip e → FreshHonoured s chip (e ▹ ev)
+honoured_stays s chip e ev none keeps = fresh_event s (current chip) e ev (λ p x place real is. absurd (false≢true (sym (ap (is_entry x) (none p)) ∙ is))) keeps
+
+-- an entry that isn't fresh isn't so after an event that lists nothing
+stale_place : (s : Sizes) (e : History) (ev : Event) (p : Place) (x : ℕ) → listed s (tasks_after s e) ev p ≡ None → is_fresh s e p x ≡ false → is_fresh s (e ▹ ev) p x ≡ false
+stale_place s e ev p x none stale = rw (ap (is_entry x) none) (still (not (x == no_page)) (not (spoils s (on_after e) (tasks_after s e) p ev)) (was_listed s e p x) stale)
+  where
+    still : (a b c : Bool) → (a && c) ≡ false → (a && (b && c)) ≡ false
+    still false b c is = refl
+    still true true c is = is
+    still true false c is = refl
+
+stale_stays : (s : Sizes) (e : History) (ev : Event) (task : Task) (command : Cdb) → ListsNone s e ev → IsStale s e task command → IsStale s (e ▹ ev) task command
+stale_stays s e ev task (HpbRead lba entry n id) none stale = stale_place s e ev (record { lun = task.lun; lba = lba }) entry (none _) stale
+stale_stays s e ev task TestReady none stale = tt
+stale_stays s e ev task (Read lba n) none stale = tt
+stale_stays s e ev task (Write lba n) none stale = tt
+stale_stays s e ev task Capacity none stale = tt
+stale_stays s e ev task (Sync lba n) none stale = tt
+stale_stays s e ev task (ReadBuffer region sub len) none stale = tt
+stale_stays s e ev task (Prefetch lba id len) none stale = tt
+stale_stays s e ev task (InactOne region) none stale = tt
+stale_stays s e ev task InactAll none stale = tt
+
+on_true : (b : Bool) {P Q : Type 0} → (P → Q) → OnTrue b P → OnTrue b Q
+on_true true f p = f p
+on_true false f p = tt
+
+pub tried_stays : (s : Sizes) (e : History) (ev : Event) (tasks : List Task) → ListsNone s e ev → TriedStale s e tasks → TriedStale s (e ▹ ev) tasks
+tried_stays s e ev [] none stale = tt
+tried_stays s e ev (head ∷ others) none stale = on_true head.tried (stale_stays s e ev head head.command none) stale
+
+-- a task that has tried nothing
+pub untried_head : (s : Sizes) (e : History) (tasks : List Task) → AllByRecursion (λ (task : Task). task.tried ≡ false) tasks → TriedStale s e tasks
+untried_head s e [] all = tt
+untried_head s e (head ∷ others) all = rw (all.0) tt
+
+-- what answers the host lists nothing
+pub reply_lists_none : (s : Sizes) (e : History) (reply : Reply) → ListsNone s e (Device (upiu_out (reply_upiu reply)))
+unfolding upiu_out upiu_at kind_of
+reply_lists_none s e reply p = by_tasks (tasks_after s e) reply
+  where
+    by_tasks : (tasks : List Waiting) (reply : Reply) → listed s tasks (Device (upiu_out (reply_upiu reply))) p ≡ None
+    by_tasks [] (NopIn tag) = refl
+    by_tasks [] (Reject lun tag reason) = refl
+    by_tasks [] (Good lun tag residual) = refl
+    by_tasks [] (TaskSetFull lun tag residual) = refl
+    by_tasks [] (Check lun tag residual cause) = refl
+    by_tasks (task ∷ others) (NopIn tag) = refl
+    by_tasks (task ∷ others) (Reject lun tag reason) = refl
+    by_tasks (task ∷ others) (Good lun tag residual) = refl
+    by_tasks (task ∷ others) (TaskSetFull lun tag residual) = refl
+    by_tasks (task ∷ others) (Check lun tag residual cause) = refl
+
+pub transfer_lists_none : (s : Sizes) (e : History) (lun tag offset count : ℕ) → ListsNone s e (Device (upiu_out (transfer_upiu ReadyToTransfer lun tag offset count)))
+unfolding upiu_out upiu_at kind_of
+transfer_lists_none s e lun tag offset count p = by_tasks (tasks_after s e)
+  where
+    by_tasks : (tasks : List Waiting) → listed s tasks (Device (upiu_out (transfer_upiu ReadyToTransfer lun tag offset count))) p ≡ None
+    by_tasks [] = refl
+    by_tasks (task ∷ others) = refl
+
+-- what a DATA IN of the first task lists
+data_listed : (s : Sizes) (e : History) (task : Waiting) (others : List Waiting) (lun tag offset : ℕ) (bytes : List ℕ) (p : Place) → offset < 2 ^ 32 → length bytes < 2 ^ 16 → tasks_after s e ≡ task ∷ others
+    → listed s (tasks_after s e) (Device (upiu_out (data_upiu DataIn lun tag offset bytes))) p ≡ (if has_tag tag task then listed_by s task task.command bytes p else None)
+data_listed s e task others lun tag offset bytes p offset_fits bytes_fit is =
+    let v = data_upiu DataIn lun tag offset bytes in
+    ap (λ (ts : List Waiting). listed s ts (Device (upiu_out v)) p) is
+    ∙ ap (λ (u : UpiuValue). listed_in s (task ∷ others) u u.kind p) (upiu_at-out v (data-consistent lun tag offset bytes offset_fits bytes_fit))
+
+either_none : (b : Bool) (o : Option ℕ) → o ≡ None → (if b then o else None) ≡ None
+either_none true o is = is
+either_none false o is = refl
+
+-- a command that lists no entries
+abbrev pub IsNoList : Cdb → Type 0
+IsNoList command = (s : Sizes) (task : Waiting) (piece : List ℕ) (p : Place) → listed_by s task command piece p ≡ None
+
+read_is_no_list : (command : Cdb) → ReadsBlocks command → IsNoList command
+read_is_no_list (Read lba n) is = λ s task piece p. refl
+read_is_no_list (HpbRead lba entry n id) is = λ s task piece p. refl
+read_is_no_list TestReady is = absurd is
+read_is_no_list (Write lba n) is = absurd is
+read_is_no_list Capacity is = absurd is
+read_is_no_list (Sync lba n) is = absurd is
+read_is_no_list (ReadBuffer region sub len) is = absurd is
+read_is_no_list (Prefetch lba id len) is = absurd is
+read_is_no_list (InactOne region) is = absurd is
+read_is_no_list InactAll is = absurd is
+
+data_lists_none : (s : Sizes) (e : History) (task : Waiting) (others : List Waiting) (lun tag offset : ℕ) (bytes : List ℕ) → offset < 2 ^ 32 → length bytes < 2 ^ 16 → tasks_after s e ≡ task ∷ others → IsNoList task.command
+    → ListsNone s e (Device (upiu_out (data_upiu DataIn lun tag offset bytes)))
+data_lists_none s e task others lun tag offset bytes offset_fits bytes_fit is none p =
+    data_listed s e task others lun tag offset bytes p offset_fits bytes_fit is ∙ either_none (has_tag tag task) (listed_by s task task.command bytes p) (none s task bytes p)
+
+-- an entry is the number of a page, or of none
+entry_fits : (chip : List Page) (p : Place) → length chip ≤ 65536 → entry_for chip p < 2 ^ 64
+entry_fits chip p few = by_page (current chip p) refl
+  where
+    by_page : (o : Option ℕ) → current chip p ≡ o → unwrap_or o (2 ^ 64 - 1) < 2 ^ 64
+    by_page None is = omega arith
+    by_page (Some n) is = let inside = current-inside chip p n is in omega (arith, inside, few)
+
+entry_is_page : (chip : List Page) (p : Place) (x : ℕ) → x ≡ entry_for chip p → not (x == no_page) ≡ true → current chip p ≡ Some x
+entry_is_page chip p x is real = by_page (current chip p) refl
+  where
+    by_page : (o : Option ℕ) → current chip p ≡ o → current chip p ≡ Some x
+    by_page (Some n) at = at ∙ ap (λ (y : ℕ). Some y) (sym (is ∙ ap (λ (o : Option ℕ). unwrap_or o (2 ^ 64 - 1)) at))
+    by_page None at =
+        let none : x ≡ 2 ^ 64 - 1 = is ∙ ap (λ (o : Option ℕ). unwrap_or o (2 ^ 64 - 1)) at in
+        let same : (x == no_page) ≡ true = grind (arith, nat_tests, none) in
+        absurd (false≢true (sym (ap not same) ∙ real))
+
+-- entries that are sent as they are on the chip are honoured
+pub honoured_listed : (s : Sizes) (chip : List Page) (e : History) (task : Waiting) (others : List Waiting) (region sub len count bytes : ℕ) → tasks_after s e ≡ task ∷ others → length chip ≤ 65536
+    → task.command ≡ ReadBuffer region sub len → task.sent % 8 ≡ 0 → task.sent < 2 ^ 32
+    → length (take bytes (entries_from (λ (lba : ℕ). entry_for chip (record { lun = task.lun; lba = lba })) (first_block_of s region sub + task.sent / 8) count)) < 2 ^ 16
+    → FreshHonoured s chip e
+    → FreshHonoured s chip (e ▹ Device (upiu_out (data_upiu DataIn task.lun task.tag task.sent (take bytes (entries_from (λ (lba : ℕ). entry_for chip (record { lun = task.lun; lba = lba })) (first_block_of s region sub + task.sent / 8) count)))))
+honoured_listed s chip e task others region sub len count bytes is few command whole offset_fits bytes_fit keeps =
+    fresh_event s (current chip) e (Device (upiu_out (data_upiu DataIn task.lun task.tag task.sent piece))) lists keeps
+  where
+    entry_at : ℕ → ℕ
+    entry_at lba = entry_for chip (record { lun = task.lun; lba = lba })
+
+    piece : List ℕ
+    piece = take bytes (entries_from entry_at (first_block_of s region sub + task.sent / 8) count)
+
+    entry_of_none : (b : Bool) (x : ℕ) (o : Option ℕ) → is_entry x (if b then o else None) ≡ true → is_entry x o ≡ true
+    entry_of_none true x o at = at
+    entry_of_none false x o at = absurd (false≢true at)
+
+    lists : (p : Place) (x : ℕ) → IsPlace s.luns s.units p → not (x == no_page) ≡ true → is_entry x (listed s (tasks_after s e) (Device (upiu_out (data_upiu DataIn task.lun task.tag task.sent piece))) p) ≡ true → current chip p ≡ Some x
+    lists p x place real at =
+        let by = sym (ap (is_entry x) (data_listed s e task others task.lun task.tag task.sent piece p offset_fits bytes_fit is)) ∙ at in
+        let entry = listed_entry s task region sub len count bytes entry_at p x command whole (λ lba. entry_fits chip (record { lun = task.lun; lba = lba }) few)
+        (entry_of_none (has_tag task.tag task) x (listed_by s task task.command piece p) by) in
+        entry_is_page chip p x (entry.0 ∙ ap (λ (lun : ℕ). entry_for chip (record { lun = lun; lba = p.lba })) (sym entry.1)) real
+
+-- a block of the first task is programmed
+pub honoured_programmed : (s : Sizes) (old new : List Page) (e : History) (task : Waiting) (others : List Waiting) (lba n k : ℕ) (bytes : List ℕ) → tasks_after s e ≡ task ∷ others
+    → task.command ≡ Write lba n → k < n → 0 < length task.come → ProgramsBlock old (record { lun = task.lun; lba = lba + k }) bytes new → FreshHonoured s old e → FreshHonoured s new e
+honoured_programmed s old new e task others lba n k bytes is command more come program keeps = λ p x place fresh.
+    current_is p (is_same here p) refl ∙ fresh_programmed s (current old) e task others lba n k program.page command more come is keeps p x place fresh
+  where
+    here : Place
+    here = record { lun = task.lun; lba = lba + k }
+
+    itself : is_same here here ≡ true
+    itself = grind (arith, nat_tests)
+
+    spare : Spare
+    spare = record { lun = task.lun; lba = lba + k; seq = next_seq old }
+
+    after : List Page
+    after = slice_set old program.page (Written bytes spare)
+
+    after_is : (p : Place) → current new p ≡ current after p
+    after_is p = ap (λ (chip : List Page). current chip p) program.programmed
+
+    current_is : (p : Place) (b : Bool) → is_same here p ≡ b → current new p ≡ with_page here program.page (current old) p
+    current_is p true same =
+        let q : here ≡ p = same_place here p same in
+        after_is p ∙ (ap (current after) (sym q)
+        ∙ (current-programmed old program.page bytes spare program.inside refl ∙ sym (ap (λ (b : Bool). if b then Some program.page else current old p) same)))
+    current_is p false other =
+        let apart : ¬ (here ≡ p) = λ q. false≢true (sym other ∙ (ap (is_same here) (sym q) ∙ itself)) in
+        after_is p ∙ (current-others old program.page bytes spare program.inside program.erased p apart ∙ sym (ap (λ (b : Bool). if b then Some program.page else current old p) other))
+
+-- an entry that isn't honoured isn't fresh
+pub missed_stale : (s : Sizes) (chip : List Page) (e : History) (task : Task) (command : Cdb) → FreshHonoured s chip e → task.lun < s.luns → first_block command < s.units
+    → ¬ IsHonoured chip (record { lun = task.lun; lba = first_block command }) (entry_given command) → IsStale s e task command
+missed_stale s chip e task (HpbRead lba entry n id) keeps lun inside refused = by_fresh (is_fresh s e here entry) refl
+  where
+    here : Place
+    here = record { lun = task.lun; lba = lba }
+
+    by_fresh : (b : Bool) → is_fresh s e here entry ≡ b → b ≡ false
+    by_fresh false is = refl
+    by_fresh true is = absurd (refused (keeps here entry (record { lun = lun; lba = inside }) is))
+missed_stale s chip e task TestReady keeps lun inside refused = tt
+missed_stale s chip e task (Read lba n) keeps lun inside refused = tt
+missed_stale s chip e task (Write lba n) keeps lun inside refused = tt
+missed_stale s chip e task Capacity keeps lun inside refused = tt
+missed_stale s chip e task (Sync lba n) keeps lun inside refused = tt
+missed_stale s chip e task (ReadBuffer region sub len) keeps lun inside refused = tt
+missed_stale s chip e task (Prefetch lba id len) keeps lun inside refused = tt
+missed_stale s chip e task (InactOne region) keeps lun inside refused = tt
+missed_stale s chip e task InactAll keeps lun inside refused = tt
+
+-- a device with these sizes
+entries_now : (d now : DeviceState) (e : History) → IsSameStore d.store now.store → now.shape ≡ d.shape → FreshHonoured (sizes_of d) now.store.pages e → TriedStale (sizes_of d) e now.tasks → EntriesStand now e
+entries_now d now e same shape fresh tried =
+    let sized = sizes_same d now same shape in
+    record { fresh = subst (λ (s : Sizes). FreshHonoured s now.store.pages e) sized fresh; tried = subst (λ (s : Sizes). TriedStale s e now.tasks) sized tried }
+
+-- a task that has no entry to try
+untried_task : (s : Sizes) (e : History) (task : Task) (others tasks : List Task) → tasks ≡ task ∷ others → ((e : History) → IsStale s e task task.command) → TriedStale s e tasks
+untried_task s e task others tasks is stale = rw is (on_any task.tried (stale e))
+  where
+    on_any : (b : Bool) {P : Type 0} → P → OnTrue b P
+    on_any true p = p
+    on_any false p = tt
+
+waiting_untried : (luns : ℕ) (lim : Limits) (s : Sizes) (e : History) (others tasks : List Task) → tasks ≡ others → AllByRecursion (IsWaiting luns lim) others → TriedStale s e tasks
+waiting_untried luns lim s e [] tasks is all = rw is tt
+waiting_untried luns lim s e (next ∷ others) tasks is all = rw (is, all.0.none_tried) tt
+
+-- the first task of the history that a device stands at
+tasks_at : (d : DeviceState) (task : Task) (others : List Task) (first : First) (e : History) (at : DeviceStands d first e) → (ready : IsReady d task others at.tasks) → tasks_after (sizes_of d) e ≡ flat task ready.only.come ∷ map waiting_of others
+tasks_at d task others first e at ready = at.stands.keeps ∙ ready.only.first
+
+-- after a block was sent
+shown_entries : (d now : DeviceState) (task rest : Task) (others : List Task) (out : List ℕ) (first : First) (e : History) (at : DeviceStands d first e) → IsReady d task others at.tasks
+    → SendsBlock d.store task rest out → now.store.pages ≡ d.store.pages → now.tasks ≡ rest ∷ others → IsSameStore d.store now.store → now.shape ≡ d.shape
+    → EntriesStand d e → EntriesStand now (e ▹ Device out)
+shown_entries d now task rest others out first e at ready shows pages head same shape stand =
+    let s = sizes_of d in
+    let block = block_of d.store.pages (nth_place task (task.sent / 4096)) in
+    let none : ListsNone s e (Device out) = subst (λ (b : List ℕ). ListsNone s e (Device b)) (sym shows.sent)
+    (data_lists_none s e (flat task ready.only.come) (map waiting_of others) task.lun task.tag task.sent block (omega (arith, shows.more, ready.ok.fits, ready.ok.expected_fits)) (omega (arith, shows.size)) (tasks_at d task others first e at ready) (read_is_no_list task.command shows.reads)) in
+    let untried : rest.tried ≡ false = ap (λ (t : Task). t.tried) shows.task_is in
+    entries_now d now (e ▹ Device out) same shape
+    (rw pages (honoured_stays s d.store.pages e (Device out) none stand.fresh))
+    (rw (head, untried) tt)
+
+-- after an event that lists nothing, where the first task goes on and tries no entry
+quiet_entries : (d now : DeviceState) (rest : Task) (others : List Task) (out : List ℕ) (e : History) → ListsNone (sizes_of d) e (Device out) → ((s : Sizes) (e : History) → IsStale s e rest rest.command)
+    → now.store.pages ≡ d.store.pages → now.tasks ≡ rest ∷ others → IsSameStore d.store now.store → now.shape ≡ d.shape → EntriesStand d e → EntriesStand now (e ▹ Device out)
+quiet_entries d now rest others out e none stale pages head same shape stand =
+    entries_now d now (e ▹ Device out) same shape
+    (rw pages (honoured_stays (sizes_of d) d.store.pages e (Device out) none stand.fresh))
+    (untried_task (sizes_of d) (e ▹ Device out) rest others now.tasks head (stale (sizes_of d)))
+
+-- after the first task ended
+ended_entries : (d now : DeviceState) (others : List Task) (reply : Reply) (out : List ℕ) (e : History) → AllByRecursion (IsWaiting d.store.luns (limits_of d.shape)) others → out ≡ upiu_out (reply_upiu reply)
+    → now.store.pages ≡ d.store.pages → now.tasks ≡ others → IsSameStore d.store now.store → now.shape ≡ d.shape → FreshHonoured (sizes_of d) d.store.pages e → EntriesStand now (e ▹ Device out)
+ended_entries d now others reply out e waiting sent pages left same shape fresh =
+    let s = sizes_of d in
+    let none : ListsNone s e (Device out) = subst (λ (b : List ℕ). ListsNone s e (Device b)) (sym sent) (reply_lists_none s e reply) in
+    entries_now d now (e ▹ Device out) same shape
+    (rw pages (honoured_stays s d.store.pages e (Device out) none fresh))
+    (waiting_untried d.store.luns (limits_of d.shape) s (e ▹ Device out) others now.tasks left waiting)
+
+-- what a step leaves
+pub stepped_entries : (d now : DeviceState) (task : Task) (others : List Task) (progress : Progress) (result : Stepped) (out : List ℕ) (first : First) (e : History) → d.tasks ≡ task ∷ others
+    → IsQueue d.store.luns (limits_of d.shape) d.held d.tasks → d.store.units ≡ d.shape.units → task.come ≡ task.asked → length d.store.pages ≤ 65536
+    → Advances (limits_of d.shape) d.store now.store d.held now.held task progress out → Leaves progress others now.tasks now.held result out → IsSameStore d.store now.store → now.shape ≡ d.shape
+    → DeviceStands d first e → EntriesStand d e → EntriesStand now (followed_by e (events_of (group_of result out)))
+stepped_entries d now task others (Shown rest) result out first e was queue units goes few advances leaves same shape at stand =
+    let ready = ready_of d task others first e at was queue units goes in
+    subst (λ (r : Stepped). EntriesStand now (followed_by e (events_of (group_of r out)))) (sym leaves.1)
+    (shown_entries d now task rest others out first e at ready advances.0.sends advances.1 leaves.0 same shape stand)
+stepped_entries d now task others (Found rest) result out first e was queue units goes few advances leaves same shape at stand =
+    let ready = ready_of d task others first e at was queue units goes in
+    subst (λ (r : Stepped). EntriesStand now (followed_by e (events_of (group_of r out)))) (sym leaves.1)
+    (shown_entries d now task rest others out first e at ready advances.0.sends advances.1 leaves.0 same shape stand)
+stepped_entries d now task others (Missed rest) result out first e was queue units goes few advances leaves same shape at stand =
+    let ready = ready_of d task others first e at was queue units goes in
+    let tries = tries_of (limits_of d.shape) task.command task advances.0.tries in
+    let moves = reads d.store.luns (limits_of d.shape) task ready.ok tries.reads in
+    let inside : first_block task.command < d.shape.units = omega (arith, moves.within, moves.gives, tries.some, ready.ok.given) in
+    let here : Rattle.flash_pages.specs.Place.Place = record { lun = task.lun; lba = first_block task.command } in
+    let refused : ¬ IsHonoured d.store.pages here (entry_given task.command) =
+    subst (λ (n : ℕ). let p : Rattle.flash_pages.specs.Place.Place = record { lun = task.lun; lba = n } in ¬ IsHonoured d.store.pages p (entry_given task.command)) (omega arith) advances.0.refused in
+    let stale : IsStale (sizes_of d) e task task.command = missed_stale (sizes_of d) d.store.pages e task task.command stand.fresh ready.ok.lun inside refused in
+    let now_task : Task = record task { tried = true } in
+    let head : now.tasks ≡ now_task ∷ others = leaves.0 ∙ ap (λ (r : Task). r ∷ others) advances.0.task_is in
+    subst (λ (r : Stepped). EntriesStand now (followed_by e (events_of (group_of r out)))) (sym leaves.1)
+    (entries_now d now e same shape (rw (advances.1) (stand.fresh)) (rw head (same_stale (sizes_of d) e task task.command stale)))
+  where
+    same_stale : (s : Sizes) (e : History) (task : Task) (command : Cdb) → IsStale s e task command → IsStale s e (record task { tried = true }) command
+    same_stale s e task (HpbRead lba entry n id) stale = stale
+    same_stale s e task TestReady stale = tt
+    same_stale s e task (Read lba n) stale = tt
+    same_stale s e task (Write lba n) stale = tt
+    same_stale s e task Capacity stale = tt
+    same_stale s e task (Sync lba n) stale = tt
+    same_stale s e task (ReadBuffer region sub len) stale = tt
+    same_stale s e task (Prefetch lba id len) stale = tt
+    same_stale s e task (InactOne region) stale = tt
+    same_stale s e task InactAll stale = tt
+stepped_entries d now task others (Listed rest) result out first e was queue units goes few advances leaves same shape at stand =
+    let ready = ready_of d task others first e at was queue units goes in
+    let lists = advances.1 in
+    let s = sizes_of d in
+    let is = lists.read_buffer.3 in
+    let t = flat task ready.only.come in
+    let count = advances.0 in
+    let entry_at : ℕ → ℕ = λ lba. entry_for d.store.pages (record { lun = task.lun; lba = lba }) in
+    let bytes = take count (entries_from entry_at (first_listed (limits_of d.shape) task.command + task.sent / 8) ((count + 7) / 8)) in
+    let few_bytes : length bytes < 2 ^ 16 = let most = length-take count (entries_from entry_at (first_listed (limits_of d.shape) task.command + task.sent / 8) ((count + 7) / 8)) in omega (arith, most, lists.counted) in
+    let whole : task.sent % 8 ≡ 0 = elim ready.ok.whole_sent [
+      | inl part ↦ omega (arith, part)
+      | inr all ↦ absurd (omega (arith, all, lists.more))
+    ] in
+    let from : first_listed (limits_of d.shape) task.command ≡ first_block_of s lists.read_buffer.0 lists.read_buffer.1 = ap (first_listed (limits_of d.shape)) is in
+    let Fresh : ℕ → Type 0 = λ n. FreshHonoured s d.store.pages (e ▹ Device (upiu_out (data_upiu DataIn task.lun task.tag task.sent (take count (entries_from entry_at (n + task.sent / 8) ((count + 7) / 8)))))) in
+    let Few : ℕ → Type 0 = λ n. length (take count (entries_from entry_at (n + task.sent / 8) ((count + 7) / 8))) < 2 ^ 16 in
+    let fresh : Fresh (first_listed (limits_of d.shape) task.command) = subst Fresh (sym from)
+    (honoured_listed s d.store.pages e t (map waiting_of others) lists.read_buffer.0 lists.read_buffer.1 lists.read_buffer.2 ((count + 7) / 8) count (tasks_at d task others first e at ready) few is whole
+    (omega (arith, lists.more, ready.ok.fits, ready.ok.expected_fits)) (subst Few from few_bytes) stand.fresh) in
+    let now_fresh : FreshHonoured s now.store.pages (e ▹ Device out) = rw (advances.2, lists.sent) fresh in
+    let command : rest.command ≡ ReadBuffer lists.read_buffer.0 lists.read_buffer.1 lists.read_buffer.2 = ap (λ (t : Task). t.command) lists.task_is ∙ is in
+    subst (λ (r : Stepped). EntriesStand now (followed_by e (events_of (group_of r out)))) (sym leaves.1)
+    (entries_now d now (e ▹ Device out) same shape now_fresh (untried_task s (e ▹ Device out) rest others now.tasks leaves.0 (λ e. subst (IsStale s e rest) (sym command) tt)))
+stepped_entries d now task others (Told rest) result out first e was queue units goes few advances leaves same shape at stand =
+    let ready = ready_of d task others first e at was queue units goes in
+    let tells = advances.0 in
+    let s = sizes_of d in
+    let size : length (capacity_of d.store.units) < 2 ^ 16 = omega arith in
+    let none : ListsNone s e (Device out) = subst (λ (b : List ℕ). ListsNone s e (Device b)) (sym tells.sent)
+    (data_lists_none s e (flat task ready.only.come) (map waiting_of others) task.lun task.tag task.sent (capacity_of d.store.units) (omega (arith, tells.none_sent)) size (tasks_at d task others first e at ready)
+    (subst IsNoList (sym tells.command) (λ s task piece p. refl))) in
+    let command : rest.command ≡ Capacity = ap (λ (t : Task). t.command) tells.task_is ∙ tells.command in
+    subst (λ (r : Stepped). EntriesStand now (followed_by e (events_of (group_of r out)))) (sym leaves.1)
+    (quiet_entries d now rest others out e none (λ s e. subst (IsStale s e rest) (sym command) tt) (ap (λ (z : StoreState). z.pages) advances.1) leaves.0 same shape stand)
+stepped_entries d now task others (Asked rest) result out first e was queue units goes few advances leaves same shape at stand =
+    let asks = advances.1 in
+    let is = is_written task.command task.asked asks.more in
+    let none : ListsNone (sizes_of d) e (Device out) = subst (λ (b : List ℕ). ListsNone (sizes_of d) e (Device b)) (sym asks.sent) (transfer_lists_none (sizes_of d) e task.lun task.tag task.asked advances.0) in
+    let command : rest.command ≡ Write is.0 is.1 = ap (λ (t : Task). t.command) asks.task_is ∙ is.2 in
+    subst (λ (r : Stepped). EntriesStand now (followed_by e (events_of (group_of r out)))) (sym leaves.1)
+    (quiet_entries d now rest others out e none (λ s e. subst (IsStale s e rest) (sym command) tt) (ap (λ (z : StoreState). z.pages) advances.2) leaves.0 same shape stand)
+stepped_entries d now task others (Programmed rest) result out first e was queue units goes few advances leaves same shape at stand =
+    let ready = ready_of d task others first e at was queue units goes in
+    let programs = advances.1 in
+    let s = sizes_of d in
+    let k = task.programmed in
+    let is = is_written task.command (4096 * k) (omega (arith, programs.more, ready.ok.come, ready.ok.asked)) in
+    let taken : bytes_taken task.command ≡ 4096 * is.1 = ap bytes_taken is.2 in
+    let below : k < is.1 = omega (arith, programs.more, ready.ok.come, ready.ok.asked, taken) in
+    let come : 0 < length ready.only.come = omega (arith, programs.more, ready.only.counted) in
+    let bytes = slice_range d.held advances.0 (advances.0 + 4096) in
+    let program : ProgramsBlock d.store.pages (record { lun = task.lun; lba = is.0 + k }) bytes now.store.pages =
+    subst (λ (lba : ℕ). let p : Rattle.flash_pages.specs.Place.Place = record { lun = task.lun; lba = lba + k } in ProgramsBlock d.store.pages p bytes now.store.pages) (ap first_block is.2) programs.program in
+    let fresh = honoured_programmed s d.store.pages now.store.pages e (flat task ready.only.come) (map waiting_of others) is.0 is.1 k bytes (tasks_at d task others first e at ready) is.2 below come program stand.fresh in
+    let command : rest.command ≡ Write is.0 is.1 = ap (λ (t : Task). t.command) programs.task_is ∙ is.2 in
+    subst (λ (r : Stepped). EntriesStand now (followed_by e (events_of (group_of r out)))) (sym leaves.1)
+    (entries_now d now e same shape fresh (untried_task s e rest others now.tasks leaves.0 (λ e. subst (IsStale s e rest) (sym command) tt)))
+stepped_entries d now task others (Ended reply) result out first e was queue units goes few advances leaves same shape at stand =
+    let q = subst (IsQueue d.store.luns (limits_of d.shape) d.held) was queue in
+    subst (λ (r : Stepped). EntriesStand now (followed_by e (events_of (group_of r out)))) (sym leaves.2)
+    (ended_entries d now others reply out e q.2 leaves.3 advances.1 leaves.0 same shape stand.fresh)
+stepped_entries d now task others (Failed op reply) result out first e was queue units goes few advances leaves same shape at stand =
+    let q = subst (IsQueue d.store.luns (limits_of d.shape) d.held) was queue in
+    subst (λ (r : Stepped). EntriesStand now (followed_by e (events_of (group_of r out)))) (sym leaves.2)
+    (ended_entries d now others reply out (e ▹ CallFailed op) q.2 leaves.3 advances.1 leaves.0 same shape
+    (honoured_stays (sizes_of d) d.store.pages e (CallFailed op) (λ p. refl) stand.fresh))
+
+-- the bytes of the host list nothing
+after_host : (d : DeviceState) (bytes : List ℕ) (e : History) → EntriesStand d e → EntriesStand d (e ▹ Host bytes)
+after_host d bytes e stand = record {
+  fresh = honoured_stays (sizes_of d) d.store.pages e (Host bytes) (λ p. refl) stand.fresh;
+  tried = tried_stays (sizes_of d) e (Host bytes) d.tasks (λ p. refl) stand.tried;
+}
+
+after_answer : (d : DeviceState) (out : List ℕ) (e : History) → ListsNone (sizes_of d) e (Device out) → EntriesStand d e → EntriesStand d (e ▹ Device out)
+after_answer d out e none stand = record {
+  fresh = honoured_stays (sizes_of d) d.store.pages e (Device out) none stand.fresh;
+  tried = tried_stays (sizes_of d) e (Device out) d.tasks none stand.tried;
+}
+
+stale_of : (s : Sizes) (e : History) (task : Task) (come : ℕ) (command : Cdb) → IsStale s e task command → IsStale s e (record task { come = come }) command
+stale_of s e task come (HpbRead lba entry n id) stale = stale
+stale_of s e task come TestReady stale = tt
+stale_of s e task come (Read lba n) stale = tt
+stale_of s e task come (Write lba n) stale = tt
+stale_of s e task come Capacity stale = tt
+stale_of s e task come (Sync lba n) stale = tt
+stale_of s e task come (ReadBuffer region sub len) stale = tt
+stale_of s e task come (Prefetch lba id len) stale = tt
+stale_of s e task come (InactOne region) stale = tt
+stale_of s e task come InactAll stale = tt
+
+more_tried : (s : Sizes) (e : History) (tasks : List Task) (task : Task) → task.tried ≡ false → TriedStale s e tasks → TriedStale s e (tasks ++ task ∷ [])
+more_tried s e [] task untried stale = rw untried tt
+more_tried s e (head ∷ others) task untried stale = stale
+
+same_store : (d now : DeviceState) → now.store ≡ d.store → IsSameStore d.store now.store
+same_store d now is = record { geometry = ap (λ (z : StoreState). z.geometry) is; luns = ap (λ (z : StoreState). z.luns) is; units = ap (λ (z : StoreState). z.units) is }
+
+-- a command that is kept, and data that come, leave the entries as they were
+pub kept_entries : (d now : DeviceState) (bytes : List ℕ) (e : History) → Keeps d now bytes ⊎ TakesData d now (upiu_at bytes).segment → now.store ≡ d.store → now.shape ≡ d.shape → EntriesStand d e → EntriesStand now (e ▹ Host bytes)
+kept_entries d now bytes e receives store shape stand =
+    let host = after_host d bytes e stand in
+    let pages : now.store.pages ≡ d.store.pages = ap (λ (z : StoreState). z.pages) store in
+    elim receives [
+      | inl keeps ↦
+          let untried : keeps.task.tried ≡ false = ap (λ (t : Task). t.tried) keeps.begun.task_is in
+          entries_now d now (e ▹ Host bytes) (same_store d now store) shape (rw pages (host.fresh))
+          (rw (keeps.kept) (more_tried (sizes_of d) (e ▹ Host bytes) d.tasks keeps.task untried host.tried))
+      | inr takes ↦
+          let tried : TriedStale (sizes_of d) (e ▹ Host bytes) (takes.task ∷ takes.others) = subst (TriedStale (sizes_of d) (e ▹ Host bytes)) takes.was host.tried in
+          entries_now d now (e ▹ Host bytes) (same_store d now store) shape (rw pages (host.fresh))
+          (rw (takes.kept) (on_true takes.task.tried (stale_of (sizes_of d) (e ▹ Host bytes) takes.task (takes.task.come + length (upiu_at bytes).segment) takes.task.command) tried))
+    ]
+
+-- what is answered at once ends no task
+pub answered_entries : (d : DeviceState) (bytes : List ℕ) (reply : Reply) (out : List ℕ) (e : History) → out ≡ upiu_out (reply_upiu reply) → EntriesStand d e → EntriesStand d (e ▹ Host bytes ▹ Device out)
+answered_entries d bytes reply out e sent stand =
+    after_answer d out (e ▹ Host bytes) (subst (λ (b : List ℕ). ListsNone (sizes_of d) (e ▹ Host bytes) (Device b)) (sym sent) (reply_lists_none (sizes_of d) (e ▹ Host bytes) reply)) (after_host d bytes e stand)
+
+-- an answer that ends the first task
+pub ending_entries : (d now : DeviceState) (luns : ℕ) (lim : Limits) (bytes : List ℕ) (reply : Reply) (out : List ℕ) (e : History) → IsQueue luns lim d.held d.tasks → EndsHead d now out → out ≡ upiu_out (reply_upiu reply)
+    → now.store ≡ d.store → now.shape ≡ d.shape → EntriesStand d e → EntriesStand now (e ▹ Host bytes ▹ Device out)
+ending_entries d now luns lim bytes reply out e queue ends sent store shape stand =
+    let host = answered_entries d bytes reply out e sent stand in
+    let pages : now.store.pages ≡ d.store.pages = ap (λ (z : StoreState). z.pages) store in
+    let q = subst (IsQueue luns lim d.held) ends.was queue in
+    entries_now d now (e ▹ Host bytes ▹ Device out) (same_store d now store) shape (rw pages (host.fresh))
+    (waiting_untried luns lim (sizes_of d) (e ▹ Host bytes ▹ Device out) ends.others now.tasks ends.ended q.2)

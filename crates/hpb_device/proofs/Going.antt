@@ -87,7 +87,7 @@ has_asked_data held luns lim kept task others at ok more =
     let asked : nat_lt 0 kept.asked ≡ true = grind (arith, nat_tests, ok.come, more) in
     rw (at.command, write.2, at.asked, asked) refl
 
-sent_or_silent : (result : Stepped) (failed : Option ChipOp) → result ≡ stepped failed true → result.sent ≡ false → ⊥
+pub sent_or_silent : (result : Stepped) (failed : Option ChipOp) → result ≡ stepped failed true → result.sent ≡ false → ⊥
 sent_or_silent result failed is silent = false≢true (sym silent ∙ ap (λ (r : Stepped). r.sent) is)
 
 silent_by : (old new : DeviceState) (task : Task) (others : List Task) (progress : Progress) (result : Stepped) (out : List ℕ) (tasks : List Waiting) → IsTaskOk old.store.luns (limits_of old.shape) task

@@ -5,4 +5,5 @@ pub mod Harmless
 pub mod Leaving
 pub mod Receiving
 pub mod Replies
+pub mod Silence
 pub mod Stepping

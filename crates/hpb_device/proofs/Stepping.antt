@@ -171,7 +171,7 @@ finish d now rest others tasks changed first e same shape pages is programmed he
     (subst (λ (ts : List Task). KeepsTasks ts now.held tasks) (sym head) keeps) at
 
 -- what a command sends and takes is the same to the flat unit
-given_is : (s : Sizes) (lim : Limits) (command : Cdb) → s.block ≡ 4096 → s.units ≡ lim.units → s.per_region ≡ lim.per_region → s.per_sub ≡ lim.per_sub → IsServed lim command
+pub given_is : (s : Sizes) (lim : Limits) (command : Cdb) → s.block ≡ 4096 → s.units ≡ lim.units → s.per_region ≡ lim.per_region → s.per_sub ≡ lim.per_sub → IsServed lim command
     → Rattle.flat_unit.specs.Command.bytes_given s command ≡ bytes_given lim command
 given_is s lim (Read lba n) block units region sub ok = ap (λ (b : ℕ). b * n) block
 given_is s lim (HpbRead lba entry n id) block units region sub ok = ap (λ (b : ℕ). b * n) block

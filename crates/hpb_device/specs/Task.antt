@@ -1,5 +1,5 @@
 -- The commands that a device keeps, and how far each has come.
-use Rattle.std.specs.Prelude.{◌≡◌, ◌⊎◌, ℕ, ◌+◌, ◌-◌, ◌*◌, ◌/◌, ◌%◌, ◌^◌, ◌<◌, ◌≤◌, ◌==◌, Bool, false, not, ◌&&◌, nat_lt, if◌then◌else◌, min, List, [], ◌∷◌, length, Option, Some, None}
+use Rattle.std.specs.Prelude.{◌≡◌, ◌⊎◌, ℕ, ◌+◌, ◌-◌, ◌*◌, ◌/◌, ◌%◌, ◌^◌, ◌<◌, ◌≤◌, ◌==◌, Bool, true, false, not, ◌&&◌, nat_lt, if◌then◌else◌, min, List, [], ◌∷◌, length, Option, Some, None}
 use Rattle.std.specs.Bool.{OnTrue}
 use Rattle.std.specs.List.{AllByRecursion}
 use Rattle.flash_pages.specs.declared.chip.TheConstants.{BLOCK_BYTES}
@@ -7,6 +7,7 @@ use Rattle.hpb_cdb.specs.declared.cdb.Cdb.{Cdb}
 use Rattle.hpb_cdb.specs.declared.cdb.Cdb.TheVariants.{TestReady, Read, Write, Capacity, Sync, HpbRead, ReadBuffer}
 use Rattle.hpb_cdb.specs.declared.limits.Limits.{Limits}
 use Rattle.hpb_cdb.specs.Cdb.{blocks_of}
+use Rattle.flat_unit.specs.Command.{is_write}
 use Rattle.hpb_device.specs.declared.task.Task.{Task}
 use Rattle.hpb_device.specs.declared.task.TheConstants.{BURST_BYTES, CAPACITY_BYTES, ENTRY_BYTES}
 
@@ -100,3 +101,9 @@ steps_of lim task =
     (bytes_given lim task.command - task.sent + (BLOCK_BYTES - 1)) / BLOCK_BYTES + (if tries_entry task then 1 else 0)
     + (bytes_taken task.command - task.asked) / BLOCK_BYTES
     + (bytes_taken task.command - BLOCK_BYTES * task.programmed) / BLOCK_BYTES + 1
+
+-- a step of the first task may have sent nothing since it came first or last sent: it has tried an entry in vain, or it is a
+-- write that has asked for data
+abbrev pub WasSilent : List Task → Type 0
+WasSilent [] = ⊥
+WasSilent (head ∷ _) = (head.tried ≡ true) ⊎ ((is_write head.command ≡ true) × (0 < head.asked))

@@ -40,7 +40,7 @@ ran_begins start left w gathered none some fresh = record {
   counted = refl;
   replays = refl;
   serves = All-nil IsServedLine;
-  shows = (record { some_page = some; stands = begins_standing start none; sizes = refl; same = record { geometry = refl; luns = refl; units = refl }; faults = omega arith; unmoved = refl; alive = tt; lacking = tt }, rw fresh (nothing_yet w []));
+  shows = (record { some_page = some; stands = begins_standing start none; sizes = refl; same = record { geometry = refl; luns = refl; units = refl }; faults = omega arith; unmoved = refl; alive = tt; lacking = tt; tried = λ is. absurd (Rattle.std.proofs.lemmas.Bool.false≢true is) }, rw fresh (nothing_yet w []));
 }
 
 pub ran_more : (start old new : DeviceState) (left mid now before w written : Option (List ℕ)) (gathered gathered_now : List ℕ) (n next : ℕ) → (ran : Ran (sizes_of start) left mid n (StandsAndPrinted start old before w gathered))

@@ -1,6 +1,7 @@
 -- Each call of the device leads from where it stands to where it stands then.
-use Rattle.std.proofs.Common.{◌≡◌, ℕ, suc, ◌+◌, ◌-◌, ◌<◌, ◌≤◌, Bool, true, false, List, [], ◌∷◌, ◌++◌, Option, Some, None, refl, sym, ◌∙◌, ap, subst, arith, inr}
-use Rattle.std.specs.Prelude.{flat_map, map, IsTrue, if◌then◌else◌}
+use Rattle.std.proofs.Common.{◌≡◌, ℕ, suc, ◌+◌, ◌-◌, ◌<◌, ◌≤◌, Bool, true, false, not, ◌&&◌, ◌||◌, nat_le, List, [], ◌∷◌, ◌++◌, Option, Some, None, refl, sym, ◌∙◌, ap, subst, arith, inl, inr}
+use Rattle.std.proofs.lemmas.Bool.{false≢true}
+use Rattle.std.specs.Prelude.{flat_map, is_none, map, IsTrue, if◌then◌else◌}
 use Rattle.std.specs.Bool.{OnFalse}
 use Rattle.std.specs.List.{AllByRecursion}
 use Rattle.std.proofs.lemmas.List.{append_assoc, append-nil}
@@ -10,7 +11,7 @@ use Rattle.flat_unit.specs.Causes.{failures, sense_code}
 use Rattle.flat_unit.specs.History.{History, ◌▹◌, followed_by}
 use Rattle.flat_unit.specs.Print.{print, line_of}
 use Rattle.flat_unit.specs.Queue.{at_rest, on_after, tasks_after}
-use Rattle.flat_unit.specs.Replays.{OpenRun, Progress, Group, StepTo, StepsTo, LineTo, events_of, stepped, enough, has_asked, is_due, lacks_less, tasks_at, told, received, with_run, without_runs}
+use Rattle.flat_unit.specs.Replays.{OpenRun, Progress, Group, StepTo, StepsTo, LineTo, events_of, stepped, enough, has_asked, has_entry, is_due, keeps_head, may_be_silent, lacks_less, tasks_at, told, received, with_run, without_runs}
 use Rattle.flat_unit.specs.Sizes.{Sizes}
 use Rattle.flat_unit.specs.Sound.{answers_to}
 use Rattle.flat_unit.specs.Stands.{First}
@@ -26,7 +27,9 @@ use Rattle.hpb_device.specs.declared.device.Sent.TheVariants.{Nothing, Upiu as U
 use Rattle.hpb_device.specs.declared.device.Stepped.{Stepped}
 use Rattle.flash_store.specs.Store.{StoreState}
 use Rattle.hpb_device.specs.Advance.{IsSameStore}
-use Rattle.hpb_device.specs.Calls.{GoesOn}
+use Rattle.hpb_device.specs.Calls.{GoesOn, Receives}
+use Rattle.hpb_device.specs.Task.{WasSilent, tries_entry}
+use Rattle.hpb_device.proofs.Silence.{going_was_silent, received_was_silent, tries_has_entry, tries_was_silent}
 use Rattle.hpb_device.specs.Keeps.{KeepsTasks}
 use Rattle.hpb_device.specs.Standing.{DeviceStands, answer_events, first_of, group_of, sizes_of}
 use Rattle.hpb_device.specs.State.{DeviceState, AtRest, steps_left}
@@ -67,7 +70,7 @@ pub record Stepping (old new : DeviceState) (r : Stepped) (out : List ℕ) : Typ
 abbrev after_step : DeviceState → Progress → Stepped → List ℕ → Progress
 after_step start m r out = stepped (sizes_of start) m (group_of r out)
 
-due_leads : (s : Sizes) (m : Progress) (g : Group) → is_due s m ≡ true → g.moved ≡ None → (g.sent ≡ None → has_asked (tasks_at s m) ≡ true) → StepTo s m (stepped s m g)
+due_leads : (s : Sizes) (m : Progress) (g : Group) → is_due s m ≡ true → g.moved ≡ None → (g.sent ≡ None → may_be_silent s m ≡ true) → StepTo s m (stepped s m g)
 due_leads s m g due still silent = record {
   group = g;
   is_group = inr still;
@@ -85,13 +88,39 @@ not_sent r out true is none = absurd (no_bytes (sent ∙ none))
     no_bytes is = cc
 not_sent r out false is none = refl
 
+-- a step that sends nothing programs a block, or tries an entry for the first time
+silent_step : (start old new : DeviceState) (m : Progress) (r : Stepped) (out : List ℕ) → Standing start old m → Stepping old new r out → r.sent ≡ false → may_be_silent (sizes_of start) m ≡ true
+silent_step start old new m r out at step silent =
+    let tracked = tracks start old m at in
+    let asked_or_tried = ap (λ (ts : List Task). has_asked ts || (has_entry (sizes_of start) m.events ts && not m.tried)) tracked in
+    asked_or_tried ∙ (elim (going_is_silent old new r out at.stands.tasks step.goes at.stands.keeps silent) [
+      | inl asked ↦ ap (λ (b : Bool). b || (has_entry (sizes_of start) m.events at.stands.tasks && not m.tried)) asked
+      | inr tries ↦
+          let entry : has_entry (sizes_of start) m.events at.stands.tasks ≡ true = subst (λ (s : Sizes). has_entry s m.events at.stands.tasks ≡ true) at.sizes
+              (tries_has_entry old step.goes.task step.goes.others at.stands.tasks m.events step.goes.was at.stands.keeps step.goes.ok tries) in
+          ap (λ (b : Bool). has_asked at.stands.tasks || (b && not m.tried)) entry ∙ untried (has_asked at.stands.tasks) m.tried refl tries
+    ])
+  where
+    or_true : (b : Bool) → (b || true) ≡ true
+    or_true true = refl
+    or_true false = refl
+
+    untried : (b tried : Bool) → m.tried ≡ tried → tries_entry step.goes.task ≡ true → (b || not tried) ≡ true
+    untried b false is tries = or_true b
+    untried b true is tries = absurd (tries_was_silent old.tasks step.goes.task step.goes.others step.goes.was tries (at.tried is))
+
+-- a group that sends nothing
+sent_none : (o : Option (List ℕ)) (b : Bool) → (is_none o && b) ≡ true → o ≡ None
+sent_none None b is = refl
+sent_none (Some bytes) b is = absurd (false≢true is)
+
 step_leads : (start old new : DeviceState) (m : Progress) (r : Stepped) (out : List ℕ) → Standing start old m → Stepping old new r out → StepTo (sizes_of start) m (after_step start m r out)
 step_leads start old new m r out at step =
     let tracked = tracks start old m at in
     let going : at_rest (tasks_at (sizes_of start) m) ≡ false = ap at_rest tracked ∙ going_tasks old at.stands.tasks at.stands.keeps step.going in
     due_leads (sizes_of start) m (group_of r out) (due_at_once (sizes_of start) m refl going)
     (rw (going_moves_none old new r out step.goes) refl)
-    (λ none. ap has_asked tracked ∙ going_is_silent old new r out at.stands.tasks step.goes at.stands.keeps (not_sent r out r.sent refl none))
+    (λ none. silent_step start old new m r out at step (not_sent r out r.sent refl none))
 
 -- the events of one step move no block, and tell no unit dead
 quiet_parts : (e : History) (failed : Option ChipOp) (moved : Option Place) (sent : Option (List ℕ)) → moved ≡ None → ((bytes : List ℕ) → sent ≡ Some bytes → ¬ (sense_code bytes ≡ Some 0x44)) → NeverDead e
@@ -139,6 +168,7 @@ step_standing start old new m r out at step = record {
   unmoved = (events_quiet start old new m r out at step).0 ∙ at.unmoved;
   alive = (events_quiet start old new m r out at step).1;
   lacking = all_weaker (LacksEnough old) (LacksEnough new) m.runs (λ run enough going. omega (arith, enough step.going, step.fewer)) at.lacking;
+  tried = λ is. going_was_silent old new r out step.goes (not_sent r out r.sent refl (sent_none (group_of r out).sent _ is));
 }
 
 -- the steps that are left are at most those that the tasks need
@@ -159,6 +189,7 @@ run_standing start now p at = record {
   unmoved = at.unmoved;
   alive = at.alive;
   lacking = (λ going. few_steps start now p at, at.lacking);
+  tried = at.tried;
 }
 
 -- so many steps of a drain were made
@@ -176,7 +207,7 @@ draining_begins start now before w gathered p at printed = record {
   moment = without_runs p;
   steps = refl;
   few = omega (arith, few_steps start now p at);
-  standing = record { some_page = at.some_page; stands = at.stands; sizes = at.sizes; same = at.same; faults = at.faults; unmoved = at.unmoved; alive = at.alive; lacking = tt };
+  standing = record { some_page = at.some_page; stands = at.stands; sizes = at.sizes; same = at.same; faults = at.faults; unmoved = at.unmoved; alive = at.alive; lacking = tt; tried = at.tried };
   printed = printed;
 }
 
@@ -293,6 +324,14 @@ rest_leads : (start now : DeviceState) (m : Progress) → Standing start now m �
 rest_leads start now m at rests =
     idle_step (sizes_of start) m no_group (ap at_rest (tracks start now m at) ∙ resting_tasks now at.stands.tasks at.stands.keeps rests) refl refl
 
+-- a step where nothing is to be done tries nothing
+still_tried : (s : Sizes) (m : Progress) → at_rest (tasks_at s m) ≡ true → (m.tried || is_due s m) ≡ true → m.tried ≡ true
+still_tried s m rests is = by_due m.tried (is_due s m) (ap (λ (b : Bool). not b && nat_le s.pages m.quiet) rests) is
+  where
+    by_due : (a b : Bool) → b ≡ false → (a || b) ≡ true → a ≡ true
+    by_due true b none is = refl
+    by_due false b none is = absurd (false≢true (sym none ∙ is))
+
 pub made_rests : (start now : DeviceState) (before w : Option (List ℕ)) (gathered : List ℕ) (p : Progress) (count next : ℕ) → next ≡ suc count
     → AtRest now → Made start now before w gathered p count → Made start now before w gathered p next
 made_rests start now before w gathered p count next counted rests so_far = record {
@@ -309,6 +348,7 @@ made_rests start now before w gathered p count next counted rests so_far = recor
     unmoved = so_far.standing.unmoved;
     alive = so_far.standing.alive;
     lacking = so_far.standing.lacking;
+    tried = λ is. so_far.standing.tried (still_tried (sizes_of start) so_far.moment (ap at_rest (tracks start now so_far.moment so_far.standing) ∙ resting_tasks now so_far.standing.stands.tasks so_far.standing.stands.keeps rests) is);
   };
   printed = so_far.printed;
 }
@@ -345,6 +385,7 @@ made_ends start now before w gathered p count so_far = record {
     unmoved = so_far.standing.unmoved;
     alive = so_far.standing.alive;
     lacking = lacking;
+    tried = so_far.standing.tried;
   };
   printed = so_far.printed;
 }
@@ -358,6 +399,7 @@ pub record Received (old new : DeviceState) (bytes out : List ℕ) (sent : Sent)
   pub answers : (tasks : List Task) → KeepsTasks old.tasks old.held tasks → answers_to (sizes_of old) true tasks bytes ≡ answer_events sent out
   pub store : new.store ≡ old.store
   pub shape : new.shape ≡ old.shape
+  pub receives : Receives old new bytes sent out
 
 same_sizes : (old new : DeviceState) → new.store ≡ old.store → new.shape ≡ old.shape → sizes_of new ≡ sizes_of old
 same_sizes old new store shape = λ i. Rattle.hpb_device.specs.Sizes.sizes (store i).luns (Rattle.hpb_device.specs.Limits.limits_of (shape i)) (store i).geometry
@@ -388,6 +430,22 @@ answers_fail_nothing : (e : History) (sent : Sent) (out : List ℕ) → failures
 answers_fail_nothing e Nothing out = refl
 answers_fail_nothing e UpiuSent out = refl
 
+-- where the first task is the one that it was before the bytes came, it has been silent as before
+told_tried : (start old new : DeviceState) (bytes out : List ℕ) (sent : Sent) (p : Progress) → (at : Standing start old p) → (got : Received old new bytes out sent) → told (sizes_of start) p bytes ≡ followed_by (p.events ▹ Host bytes) (answer_events sent out)
+    → (received (sizes_of start) p bytes).tried ≡ true → WasSilent new.tasks
+told_tried start old new bytes out sent p at got events is =
+    let now = got.stands (first_of start) p.events at.stands in
+    let sized = same_sizes old new got.store got.shape ∙ at.sizes in
+    let tasks_now : tasks_after (sizes_of start) (told (sizes_of start) p bytes) ≡ now.tasks =
+    ap (tasks_after (sizes_of start)) events ∙ subst (λ (s : Sizes). tasks_after s (followed_by (p.events ▹ Host bytes) (answer_events sent out)) ≡ now.tasks) sized now.stands.keeps in
+    let both = both_hold p.tried (keeps_head (tasks_at (sizes_of start) p) (tasks_after (sizes_of start) (told (sizes_of start) p bytes))) is in
+    let same : keeps_head at.stands.tasks now.tasks ≡ true = sym (λ i. keeps_head (tracks start old p at i) (tasks_now i)) ∙ both.1 in
+    received_was_silent old new bytes sent out (first_of start) p.events now.tasks at.stands now.keeps got.receives same (at.tried both.0)
+  where
+    both_hold : (a b : Bool) → (a && b) ≡ true → (a ≡ true) × (b ≡ true)
+    both_hold true b is = (refl, is)
+    both_hold false b is = absurd (false≢true is)
+
 pub told_leads : (start old new : DeviceState) (before w : Option (List ℕ)) (gathered gathered_now bytes out : List ℕ) (sent : Sent) (p : Progress) → Standing start old p
     → Received old new bytes out sent → HasWrittenUpTo before w (print p.events) gathered → gathered_now ≡ gathered ++ flat_map line_of (Host bytes ∷ answer_events sent out)
     → Leads (LineTo (sizes_of start) (Upiu bytes) p) start new before w gathered_now
@@ -406,6 +464,7 @@ told_leads start old new before w gathered gathered_now bytes out sent p at got 
         unmoved = rw events (still_unmoved (p.events ▹ Host bytes) sent out ∙ at.unmoved);
         alive = rw events (still_alive (p.events ▹ Host bytes) sent out at.alive (answer_alive start old new bytes out sent p at got));
         lacking = tt;
+        tried = told_tried start old new bytes out sent p at got events;
       };
       printed = rw (events, is) (events_gathered before w p.events (Host bytes ∷ answer_events sent out) gathered printed);
     }

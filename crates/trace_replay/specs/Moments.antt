@@ -1,5 +1,5 @@
 -- Where a device and a text stand while a trace is replayed.
-use Rattle.std.specs.Prelude.{◌≡◌, ℕ, ◌≤◌, List, Option, Result, MatchResult}
+use Rattle.std.specs.Prelude.{◌≡◌, ℕ, ◌≤◌, true, List, Option, Result, MatchResult}
 use Rattle.std.specs.List.{AllByRecursion}
 use Rattle.flat_unit.specs.Causes.{FailuresWithin}
 use Rattle.flat_unit.specs.Print.{print}
@@ -10,6 +10,7 @@ use Rattle.flat_unit.specs.Trace.{Line, Upiu, Steps, Collect, Drain, ResetLine, 
 use Rattle.hpb_device.specs.Advance.{IsSameStore}
 use Rattle.hpb_device.specs.Standing.{DeviceStands, first_of, sizes_of}
 use Rattle.hpb_device.specs.State.{DeviceState, AtRest, steps_left}
+use Rattle.hpb_device.specs.Task.{WasSilent}
 use Rattle.trace_replay.specs.declared.replay.Turn.{Turn}
 use Rattle.trace_replay.specs.declared.replay.Turn.TheVariants.{Served, Bad, Unwritten}
 use Rattle.trace_replay.specs.Transcript.{NeverDead}
@@ -29,6 +30,7 @@ pub record Standing (start now : DeviceState) (p : Progress) : Type 0 where
   pub unmoved : moves p.events ≡ 0
   pub alive : NeverDead p.events
   pub lacking : AllByRecursion (LacksEnough now) p.runs
+  pub tried : p.tried ≡ true → WasSilent now.tasks
 
 -- a line that is served: all but collection and resets
 abbrev pub IsServedLine : Line → Type 0

@@ -16,6 +16,11 @@ const BURST_BYTES: u32 = 32_768;
 /// The tasks that are kept at most.
 const ROOM: usize = 32;
 
+/// The blocks of a region and of a subregion where the words name no other.
+const REGION_BLOCKS: u64 = 128;
+
+const SUB_BLOCKS: u64 = 32;
+
 /// The bytes of a UPIU before its data segment.
 const HEADER: usize = 32;
 
@@ -107,6 +112,8 @@ enum Command {
     Sync { lba: u32, n: u16 },
     Read { lba: u32, n: u16 },
     Write { lba: u32, n: u16 },
+    /// READ BUFFER, by the bytes that it sends.
+    List { given: u32 },
 }
 
 impl Command {
@@ -118,6 +125,12 @@ impl Command {
             0x00 => return Ok(Command::TestReady),
             0x25 => return Ok(Command::Capacity),
             0x28 => Command::Read { lba, n },
+            0xF8 if byte(cdb, 15) <= 0x7F => Command::Read {
+                lba,
+                n: u16::from(byte(cdb, 14)),
+            },
+            0xF8 => return Err(BAD_FIELD),
+            0xF9 => return Command::list(cdb, units),
             0x2A => Command::Write { lba, n },
             0x35 => Command::Sync { lba, n },
             _ => return Err(UNKNOWN_OPCODE),
@@ -128,9 +141,26 @@ impl Command {
         Ok(command)
     }
 
+    /// READ BUFFER, which names a subregion of a region.
+    fn list(cdb: &[u8], units: u32) -> Result<Command, (u8, u8)> {
+        let region = number(cdb, 2, 2) & 0xFFFF;
+        let sub = number(cdb, 4, 2) & 0xFFFF;
+        let first = u64::from(region) * REGION_BLOCKS + u64::from(sub) * SUB_BLOCKS;
+        let is_there = u64::from(sub) < REGION_BLOCKS / SUB_BLOCKS && first < u64::from(units);
+        if byte(cdb, 1) != 0x01 || !is_there {
+            return Err(BAD_FIELD);
+        }
+        let blocks = SUB_BLOCKS.min(u64::from(units).saturating_sub(first)) as u32;
+        let length = number(cdb, 6, 3) & 0xFF_FFFF;
+        Ok(Command::List {
+            given: length.min(blocks.saturating_mul(8)),
+        })
+    }
+
     /// The bytes that it sends.
     fn given(self) -> u32 {
         match self {
+            Command::List { given } => given,
             Command::Read { n, .. } => u32::from(n) * BLOCK_BYTES,
             Command::Capacity => 8,
             _ => 0,
@@ -494,17 +524,20 @@ impl Oracle {
     fn judge_data(&self, task: &Task, bytes: &[u8]) -> Result<(), Stop> {
         let length = match task.command {
             Command::Read { .. } => BLOCK_BYTES,
+            Command::List { given } => given.saturating_sub(task.sent).min(BLOCK_BYTES),
             _ => 8,
         };
+        let padded = length.saturating_add(3) / 4 * 4;
         let head = header(0x22, task.lun, task.tag, length, task.sent, length);
         let Some(segment) = bytes.strip_prefix(head.as_slice()) else {
             return Err(Stop::Bad(Why::Sent));
         };
-        if task.sent >= task.command.given() || segment.len() != length as usize {
+        if task.sent >= task.command.given() || segment.len() != padded as usize {
             return Err(Stop::Bad(Why::Sent));
         }
         let is_allowed = match task.command {
             Command::Read { lba, .. } => self.allows(self.place(task, lba), segment),
+            Command::List { .. } => self.are_entries(segment),
             _ => self.is_capacity(segment),
         };
         if is_allowed {
@@ -525,6 +558,15 @@ impl Oracle {
             Some(blocks) => blocks.iter().any(|allowed| allowed.as_slice() == block),
             None => false,
         }
+    }
+
+    /// Numbers of pages, or of none.
+    fn are_entries(&self, segment: &[u8]) -> bool {
+        segment.chunks_exact(8).all(|entry| {
+            let high = number(entry, 0, 4);
+            let low = number(entry, 4, 4);
+            (high == 0 && low < self.sizes.pages) || (high == u32::MAX && low == u32::MAX)
+        })
     }
 
     /// The last LBA, and the bytes of a block.

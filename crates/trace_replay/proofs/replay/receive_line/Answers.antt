@@ -28,6 +28,7 @@ returns-in-Upiu-clause-turn g c start before p at printed =
       answers = c.receive-sent.ensures.answers;
       store = c.receive-sent.ensures.store;
       shape = c.receive-sent.ensures.shape;
+      receives = c.receive-sent.ensures.receives;
     } in
     let whole = whole_of c.make_room.result _ _ (search rules) (c.make_room.ensures.text before (print p.events) printed) in (
       tt,
@@ -42,6 +43,7 @@ returns-in_default-clause-turn g c start before p at printed =
       answers = c.receive-sent.ensures.answers;
       store = c.receive-sent.ensures.store;
       shape = c.receive-sent.ensures.shape;
+      receives = c.receive-sent.ensures.receives;
     } in
     let whole = whole_of c.make_room.result _ _ (search rules) (c.make_room.ensures.text before (print p.events) printed) in (
       tt,

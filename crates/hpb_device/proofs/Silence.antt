@@ -1,0 +1,156 @@
+-- Steps that send nothing, and when they may be made.
+use Rattle.std.proofs.Common.{◌≡◌, ◌⊎◌, ℕ, ◌+◌, ◌*◌, ◌/◌, ◌<◌, ◌≤◌, ◌==◌, Bool, true, false, not, ◌&&◌, ◌||◌, nat_lt, List, [], ◌∷◌, ◌++◌, map, Option, Some, None, refl, sym, ◌∙◌, ap, subst, arith, inl, inr}
+use Rattle.std.specs.Prelude.{is_some, if◌then◌else◌}
+use Rattle.std.specs.List.{list_any}
+use Rattle.std.proofs.lemmas.Bool.{false≢true}
+use Rattle.std.proofs.lemmas.Bool.Decides.{nat_tests}
+use Rattle.hpb_cdb.specs.declared.cdb.Cdb.{Cdb}
+use Rattle.hpb_cdb.specs.declared.cdb.Cdb.TheVariants.{TestReady, Read, Write, Capacity, Sync, HpbRead, ReadBuffer, Prefetch, InactOne, InactAll}
+use Rattle.hpb_cdb.specs.declared.limits.Limits.{Limits}
+use Rattle.upiu_wire.specs.Upiu.{upiu_at}
+use Rattle.flat_unit.specs.Command.{is_write}
+use Rattle.flat_unit.specs.History.{History}
+use Rattle.flat_unit.specs.Lists.{Fetched, entry_of_block, lists_after}
+use Rattle.flat_unit.specs.Replays.{has_entry, keeps_head}
+use Rattle.flat_unit.specs.Reply.{has_tag}
+use Rattle.flat_unit.specs.Sizes.{Sizes}
+use Rattle.flat_unit.specs.Stands.{First}
+use Rattle.flat_unit.specs.Task.{Task as Waiting}
+use Rattle.flat_unit.proofs.Steps.{queue_of}
+use Rattle.flat_unit.proofs.Unfetched.{no_lists}
+use Rattle.hpb_device.specs.declared.advance.Progress.{Progress}
+use Rattle.hpb_device.specs.declared.advance.Progress.TheVariants.{Shown, Found, Missed, Listed, Told, Asked, Programmed, Ended, Failed}
+use Rattle.hpb_device.specs.declared.device.Sent.{Sent}
+use Rattle.hpb_device.specs.declared.device.Sent.TheVariants.{Nothing, Upiu}
+use Rattle.hpb_device.specs.declared.device.Stepped.{Stepped}
+use Rattle.hpb_device.specs.declared.task.Task.{Task}
+use Rattle.hpb_device.specs.Advance.{Advances}
+use Rattle.hpb_device.specs.Calls.{GoesOn, Leaves, Receives}
+use Rattle.hpb_device.specs.Keeps.{KeepsTasks, waiting_of}
+use Rattle.hpb_device.specs.Limits.{limits_of}
+use Rattle.hpb_device.specs.Standing.{DeviceStands, kept_of, sizes_of}
+use Rattle.flat_unit.specs.Tasks.{AreApart}
+use Rattle.hpb_device.specs.State.{DeviceState}
+use Rattle.hpb_device.specs.Task.{IsTaskOk, WasSilent, bytes_given, tries_entry, tries_entry_of}
+use Rattle.hpb_device.proofs.Commands.{tries_of}
+use Rattle.hpb_device.proofs.Going.{sent_or_silent}
+use Rattle.hpb_device.proofs.Stepping.{given_is, is_written}
+
+-- after a step that sent nothing
+silent_after : (old new : DeviceState) (task : Task) (others : List Task) (progress : Progress) (result : Stepped) (out : List ℕ) → IsTaskOk old.store.luns (limits_of old.shape) task
+    → Advances (limits_of old.shape) old.store new.store old.held new.held task progress out → Leaves progress others new.tasks new.held result out → result.sent ≡ false → WasSilent new.tasks
+silent_after old new task others (Shown rest) result out ok advances leaves silent = absurd (sent_or_silent result _ leaves.1 silent)
+silent_after old new task others (Found rest) result out ok advances leaves silent = absurd (sent_or_silent result _ leaves.1 silent)
+silent_after old new task others (Missed rest) result out ok advances leaves silent = rw (leaves.0) (inl (ap (λ (t : Task). t.tried) advances.0.task_is))
+silent_after old new task others (Listed rest) result out ok advances leaves silent = absurd (sent_or_silent result _ leaves.1 silent)
+silent_after old new task others (Told rest) result out ok advances leaves silent = absurd (sent_or_silent result _ leaves.1 silent)
+silent_after old new task others (Asked rest) result out ok advances leaves silent = absurd (sent_or_silent result _ leaves.1 silent)
+silent_after old new task others (Programmed rest) result out ok advances leaves silent =
+    let programs = advances.1 in
+    let write = is_written task.command task.programmed (omega (arith, ok.asked, ok.come, programs.more)) in
+    let is : is_write rest.command ≡ true = ap (λ (t : Task). is_write t.command) programs.task_is ∙ ap is_write write.2 in
+    let asked : rest.asked ≡ task.asked = ap (λ (t : Task). t.asked) programs.task_is in
+    rw (leaves.0) (inr (is, omega (arith, asked, ok.come, programs.more)))
+silent_after old new task others (Ended reply) result out ok advances leaves silent = absurd (sent_or_silent result _ leaves.2 silent)
+silent_after old new task others (Failed op reply) result out ok advances leaves silent = absurd (sent_or_silent result _ leaves.2 silent)
+
+pub going_was_silent : (old new : DeviceState) (result : Stepped) (out : List ℕ) → GoesOn old new result out → result.sent ≡ false → WasSilent new.tasks
+going_was_silent old new result out goes silent = silent_after old new goes.task goes.others goes.progress result out goes.ok goes.advances goes.leaves silent
+
+-- a task that tries an entry was not silent
+not_written : (command : Cdb) (task : Task) → tries_entry_of command task ≡ true → is_write command ≡ false
+not_written (HpbRead lba entry n id) task is = refl
+not_written (Write lba n) task is = absurd (false≢true is)
+not_written TestReady task is = refl
+not_written (Read lba n) task is = refl
+not_written Capacity task is = refl
+not_written (Sync lba n) task is = refl
+not_written (ReadBuffer region sub len) task is = refl
+not_written (Prefetch lba id len) task is = refl
+not_written (InactOne region) task is = refl
+not_written InactAll task is = refl
+
+not_tried : (command : Cdb) (task : Task) → tries_entry_of command task ≡ true → task.tried ≡ false
+not_tried (HpbRead lba entry n id) task is = by_tried (task.sent == 0) (nat_lt 0 n) task.tried refl is
+  where
+    by_tried : (a b c : Bool) → task.tried ≡ c → (a && (b && not c)) ≡ true → task.tried ≡ false
+    by_tried a b false at is = at
+    by_tried true true true at is = absurd (false≢true is)
+    by_tried true false true at is = absurd (false≢true is)
+    by_tried false b true at is = absurd (false≢true is)
+not_tried (Write lba n) task is = absurd (false≢true is)
+not_tried TestReady task is = absurd (false≢true is)
+not_tried (Read lba n) task is = absurd (false≢true is)
+not_tried Capacity task is = absurd (false≢true is)
+not_tried (Sync lba n) task is = absurd (false≢true is)
+not_tried (ReadBuffer region sub len) task is = absurd (false≢true is)
+not_tried (Prefetch lba id len) task is = absurd (false≢true is)
+not_tried (InactOne region) task is = absurd (false≢true is)
+not_tried InactAll task is = absurd (false≢true is)
+
+pub tries_was_silent : (tasks : List Task) (task : Task) (others : List Task) → tasks ≡ task ∷ others → tries_entry task ≡ true → WasSilent tasks → ⊥
+tries_was_silent tasks task others is tries silent = elim (subst WasSilent is silent) [
+  | inl tried ↦ false≢true (sym (not_tried task.command task tries) ∙ tried)
+  | inr write ↦ false≢true (sym (not_written task.command task tries) ∙ write.0)
+]
+
+-- the entry that a task tries is one that its next block has
+entry_found : (s : Sizes) (lists : List Fetched) (waiting : Waiting) (command : Cdb) (task : Task) → lists ≡ [] → tries_entry_of command task ≡ true → is_some (entry_of_block lists waiting command 0) ≡ true
+entry_found s lists waiting (HpbRead lba entry n id) task none is = rw none refl
+entry_found s lists waiting TestReady task none is = absurd (false≢true is)
+entry_found s lists waiting (Read lba n) task none is = absurd (false≢true is)
+entry_found s lists waiting (Write lba n) task none is = absurd (false≢true is)
+entry_found s lists waiting Capacity task none is = absurd (false≢true is)
+entry_found s lists waiting (Sync lba n) task none is = absurd (false≢true is)
+entry_found s lists waiting (ReadBuffer region sub len) task none is = absurd (false≢true is)
+entry_found s lists waiting (Prefetch lba id len) task none is = absurd (false≢true is)
+entry_found s lists waiting (InactOne region) task none is = absurd (false≢true is)
+entry_found s lists waiting InactAll task none is = absurd (false≢true is)
+
+pub tries_has_entry : (device : DeviceState) (task : Task) (others : List Task) (tasks : List Waiting) (e : History) → device.tasks ≡ task ∷ others → KeepsTasks device.tasks device.held tasks
+    → IsTaskOk device.store.luns (limits_of device.shape) task → tries_entry task ≡ true → has_entry (sizes_of device) e tasks ≡ true
+tries_has_entry device task others tasks e was keeps ok tries =
+    let s = sizes_of device in
+    let k = subst (λ (ts : List Task). KeepsTasks ts device.held tasks) was keeps in
+    let at = tries_of (limits_of device.shape) task.command task tries in
+    let given = given_is s (limits_of device.shape) task.command refl refl refl refl ok.served in
+    let none : lists_after s e ≡ [] = no_lists s e refl in
+    let sent : k.0.sent ≡ 0 = k.1.sent ∙ at.none_sent in
+    let more : nat_lt 0 (Rattle.flat_unit.specs.Command.bytes_given s task.command) ≡ true = grind (arith, nat_tests, given, at.some) in
+    let found = entry_found s (lists_after s e) k.0 task.command task none tries in
+    rw (k.2, sent, k.1.command, more) found
+
+-- a command that is kept behind the first task
+more_silent : (tasks : List Task) (task : Task) → WasSilent tasks → WasSilent (tasks ++ task ∷ [])
+more_silent [] task silent = absurd silent
+more_silent (head ∷ others) task silent = silent
+
+-- another task comes first where the first one is gone
+first_false : (a b : Bool) → (a || b) ≡ false → a ≡ false
+first_false false b is = refl
+first_false true b is = is
+
+head_gone : (others : List Task) (held : List ℕ) (gone : Waiting) (now : List Waiting) → list_any (has_tag gone.tag) (map waiting_of others) ≡ false → KeepsTasks others held now → keeps_head (gone ∷ map waiting_of others) now ≡ false
+head_gone [] held gone now alone keeps = rw keeps refl
+head_gone (next ∷ others) held gone now alone keeps =
+    let other : (next.tag == gone.tag) ≡ false = first_false (next.tag == gone.tag) (list_any (has_tag gone.tag) (map waiting_of others)) alone in
+    let apart : (gone.tag == next.tag) ≡ false = grind (arith, nat_tests, other) in
+    rw (keeps.2, keeps.1.tag) apart
+
+-- where the first task is the one that it was, it has been silent as before
+pub received_was_silent : (old new : DeviceState) (bytes : List ℕ) (result : Sent) (out : List ℕ) (first : First) (e : History) (now : List Waiting) → (at : DeviceStands old first e) → KeepsTasks new.tasks new.held now
+    → Receives old new bytes result out → keeps_head at.tasks now ≡ true → WasSilent old.tasks → WasSilent new.tasks
+received_was_silent old new bytes Nothing out first e now at keeps receives same silent = elim receives [
+  | inl kept ↦ rw (kept.kept) (more_silent old.tasks kept.task silent)
+  | inr takes ↦ rw (takes.kept) (subst WasSilent takes.was silent)
+]
+received_was_silent old new bytes Upiu out first e now at keeps receives same silent = elim receives [
+  | inl stays ↦ subst (λ (d : DeviceState). WasSilent d.tasks) (sym stays) silent
+  | inr ends ↦
+      let k = subst (λ (ts : List Task). KeepsTasks ts old.held at.tasks) ends.was at.keeps in
+      let queue = queue_of (sizes_of old) first (kept_of old at.tasks) e at.stands in
+      let alone : list_any (has_tag k.0.tag) (map waiting_of ends.others) ≡ false = (subst AreApart k.2 queue.apart).0 in
+      let left : KeepsTasks ends.others new.held now = subst (λ (ts : List Task). KeepsTasks ts new.held now) ends.ended keeps in
+      let gone : keeps_head at.tasks now ≡ false = ap (λ (ts : List Waiting). keeps_head ts now) k.2 ∙ head_gone ends.others new.held k.0 now alone left in
+      absurd (false≢true (sym gone ∙ same))
+]

@@ -97,7 +97,7 @@ silent_step start old new m r out at step silent =
       | inl asked ↦ ap (λ (b : Bool). b || (has_entry (sizes_of start) m.events at.stands.tasks && not m.tried)) asked
       | inr tries ↦
           let entry : has_entry (sizes_of start) m.events at.stands.tasks ≡ true = subst (λ (s : Sizes). has_entry s m.events at.stands.tasks ≡ true) at.sizes
-              (tries_has_entry old step.goes.task step.goes.others at.stands.tasks m.events step.goes.was at.stands.keeps step.goes.ok tries) in
+          (tries_has_entry old step.goes.task step.goes.others at.stands.tasks m.events step.goes.was at.stands.keeps step.goes.ok tries) in
           ap (λ (b : Bool). has_asked at.stands.tasks || (b && not m.tried)) entry ∙ untried (has_asked at.stands.tasks) m.tried refl tries
     ])
   where

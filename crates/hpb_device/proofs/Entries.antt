@@ -1,5 +1,5 @@
 -- A device's chip honours what the device has listed, after each call.
-use Rattle.std.proofs.Common.{◌≡◌, ◌⊎◌, ℕ, ◌+◌, ◌-◌, ◌*◌, ◌/◌, ◌%◌, ◌^◌, ◌<◌, ◌≤◌, ◌==◌, Bool, true, false, not, ◌&&◌, ◌||◌, cond, List, [], ◌∷◌, ◌++◌, length, length-take, map, take, Option, Some, None, refl, sym, ◌∙◌, ap, subst, arith, inl, inr}
+use Rattle.std.proofs.Common.{◌≡◌, ◌⊎◌, ℕ, ◌+◌, ◌-◌, ◌*◌, ◌/◌, ◌%◌, ◌^◌, ◌<◌, ◌≤◌, ◌==◌, Bool, true, false, not, ◌&&◌, List, [], ◌∷◌, ◌++◌, length, length-take, map, take, Option, Some, None, refl, sym, ◌∙◌, ap, subst, arith, inl, inr}
 use Rattle.std.specs.Prelude.{unwrap_or, if◌then◌else◌}
 use Rattle.std.specs.Bool.{OnTrue}
 use Rattle.std.specs.List.{AllByRecursion}
@@ -26,7 +26,6 @@ use Rattle.flat_unit.specs.Reply.{has_tag}
 use Rattle.flat_unit.proofs.History.{data-consistent, upiu_at-out}
 use Rattle.upiu_wire.specs.Upiu.{Upiu as UpiuValue}
 use Rattle.flat_unit.specs.History.{History, ◌▹◌}
-use Rattle.flat_unit.specs.Pages.{KeepsFresh}
 use Rattle.flat_unit.specs.Queue.{on_after, tasks_after}
 use Rattle.flat_unit.specs.Sizes.{Sizes}
 use Rattle.flat_unit.specs.Task.{Task as Waiting}
@@ -475,3 +474,14 @@ ending_entries d now luns lim bytes reply out e queue ends sent store shape stan
     let q = subst (IsQueue luns lim d.held) ends.was queue in
     entries_now d now (e ▹ Host bytes ▹ Device out) (same_store d now store) shape (rw pages (host.fresh))
     (waiting_untried luns lim (sizes_of d) (e ▹ Host bytes ▹ Device out) ends.others now.tasks ends.ended q.2)
+
+-- a device that was just made has listed nothing, and tried nothing
+pub begins_entries : (device : DeviceState) → device.tasks ≡ [] → EntriesStand device []
+begins_entries device none = record {
+  fresh = λ p x place fresh. absurd (false≢true (sym (and_false (not (x == no_page))) ∙ fresh));
+  tried = rw none tt;
+}
+  where
+    and_false : (a : Bool) → (a && false) ≡ false
+    and_false true = refl
+    and_false false = refl

@@ -1,5 +1,5 @@
 -- What a step of a device tells, and where it leaves the device, whatever its command.
-use Rattle.std.proofs.Common.{◌≡◌, ◌⊎◌, ℕ, ◌+◌, ◌-◌, ◌*◌, ◌/◌, ◌<◌, ◌≤◌, ◌==◌, Bool, true, false, not, ◌&&◌, nat_lt, min, take, List, [], ◌∷◌, ◌++◌, map, Option, Some, None, refl, sym, ◌∙◌, ap, subst, arith, inl, inr}
+use Rattle.std.proofs.Common.{◌≡◌, ◌⊎◌, ℕ, ◌+◌, ◌-◌, ◌*◌, ◌/◌, ◌<◌, ◌≤◌, ◌==◌, Bool, true, false, not, ◌&&◌, nat_lt, take, List, [], ◌∷◌, ◌++◌, map, Option, Some, None, refl, sym, ◌∙◌, ap, subst, arith, inl, inr}
 use Rattle.std.proofs.lemmas.Bool.{false≢true}
 use Rattle.std.proofs.Math.Nat.{mul-le-mul_right, mul_assoc}
 use Rattle.std.proofs.lemmas.Bool.Decides.{nat_tests}
@@ -24,7 +24,6 @@ use Rattle.flat_unit.specs.Causes.{FailuresWithin, sense_code}
 use Rattle.flat_unit.specs.History.{followed_by}
 use Rattle.flat_unit.specs.Queue.{at_rest}
 use Rattle.flat_unit.specs.Replays.{events_of, has_asked, enough, bound}
-use Rattle.flat_unit.specs.Sizes.{Sizes}
 use Rattle.flat_unit.specs.Stands.{Stands}
 use Rattle.flat_unit.specs.Task.{Task as Waiting}
 use Rattle.flat_unit.proofs.Steps.{stands_begun}

@@ -1,13 +1,11 @@
 -- Steps that send nothing, and when they may be made.
-use Rattle.std.proofs.Common.{◌≡◌, ◌⊎◌, ℕ, ◌+◌, ◌*◌, ◌/◌, ◌<◌, ◌≤◌, ◌==◌, Bool, true, false, not, ◌&&◌, ◌||◌, nat_lt, List, [], ◌∷◌, ◌++◌, map, Option, Some, None, refl, sym, ◌∙◌, ap, subst, arith, inl, inr}
-use Rattle.std.specs.Prelude.{is_some, if◌then◌else◌}
+use Rattle.std.proofs.Common.{◌≡◌, ℕ, ◌==◌, Bool, true, false, not, ◌&&◌, ◌||◌, nat_lt, List, [], ◌∷◌, ◌++◌, map, refl, sym, ◌∙◌, ap, subst, arith, inl, inr}
+use Rattle.std.specs.Prelude.{is_some}
 use Rattle.std.specs.List.{list_any}
 use Rattle.std.proofs.lemmas.Bool.{false≢true}
 use Rattle.std.proofs.lemmas.Bool.Decides.{nat_tests}
 use Rattle.hpb_cdb.specs.declared.cdb.Cdb.{Cdb}
 use Rattle.hpb_cdb.specs.declared.cdb.Cdb.TheVariants.{TestReady, Read, Write, Capacity, Sync, HpbRead, ReadBuffer, Prefetch, InactOne, InactAll}
-use Rattle.hpb_cdb.specs.declared.limits.Limits.{Limits}
-use Rattle.upiu_wire.specs.Upiu.{upiu_at}
 use Rattle.flat_unit.specs.Command.{is_write}
 use Rattle.flat_unit.specs.History.{History}
 use Rattle.flat_unit.specs.Lists.{Fetched, entry_of_block, lists_after}
@@ -31,7 +29,7 @@ use Rattle.hpb_device.specs.Limits.{limits_of}
 use Rattle.hpb_device.specs.Standing.{DeviceStands, kept_of, sizes_of}
 use Rattle.flat_unit.specs.Tasks.{AreApart}
 use Rattle.hpb_device.specs.State.{DeviceState}
-use Rattle.hpb_device.specs.Task.{IsTaskOk, WasSilent, bytes_given, tries_entry, tries_entry_of}
+use Rattle.hpb_device.specs.Task.{IsTaskOk, WasSilent, tries_entry, tries_entry_of}
 use Rattle.hpb_device.proofs.Commands.{tries_of}
 use Rattle.hpb_device.proofs.Going.{sent_or_silent}
 use Rattle.hpb_device.proofs.Stepping.{given_is, is_written}

@@ -1,5 +1,5 @@
 -- A device that stands at a history stands at it with the events of one step.
-use Rattle.std.proofs.Common.{◌≡◌, ℕ, ◌+◌, ◌-◌, ◌*◌, ◌/◌, ◌^◌, ◌<◌, ◌≤◌, true, List, [], ◌∷◌, length, drop, min, slice_range, map, length-take-le, Option, Some, None, zero, suc, false, refl, sym, ◌∙◌, ap, subst, arith, inl, inr, ◌⊎◌}
+use Rattle.std.proofs.Common.{◌≡◌, ℕ, ◌+◌, ◌-◌, ◌*◌, ◌/◌, ◌^◌, ◌<◌, ◌≤◌, true, List, [], ◌∷◌, length, drop, min, slice_range, map, length-take-le, Some, None, zero, suc, false, refl, sym, ◌∙◌, ap, subst, arith, inl, inr, ◌⊎◌}
 use Rattle.std.proofs.Math.ListN.{drop_of_length-le}
 use Rattle.std.proofs.lemmas.List.{drop-drop}
 use Rattle.std.specs.Prelude.{slice_set, take}
@@ -48,7 +48,7 @@ use Rattle.hpb_device.specs.declared.reply.Reply.TheVariants.{Good}
 use Rattle.hpb_device.specs.declared.reply.Cause.{Cause}
 use Rattle.hpb_device.specs.declared.reply.Cause.TheVariants.{ReadFailed, WriteFailed, NoRoom}
 use Rattle.hpb_device.specs.Reply.{cause_sense}
-use Rattle.hpb_device.specs.Advance.{IsComplete, HasNoRoom, check, call_of, failure_of, IsSameStore, SendsBlock, Shows, Misses, Lists, Tells, Asks, Programs, Fails, MovesBlocks, ReadsBlocks, entries_of, first_listed, capacity_of, nth_place, first_block}
+use Rattle.hpb_device.specs.Advance.{IsComplete, HasNoRoom, check, call_of, failure_of, IsSameStore, SendsBlock, Misses, Lists, Tells, Asks, Programs, Fails, MovesBlocks, ReadsBlocks, entries_of, first_listed, capacity_of, nth_place, first_block}
 use Rattle.hpb_device.specs.Keeps.{KeepsTasks, waiting_of}
 use Rattle.hpb_device.specs.Limits.{limits_of}
 use Rattle.hpb_device.specs.Reply.{reply_upiu}
@@ -56,7 +56,7 @@ use Rattle.hpb_device.specs.Sizes.{sizes}
 use Rattle.hpb_device.specs.Standing.{sizes_of, kept_of, programmed_of, DeviceStands}
 use Rattle.hpb_device.specs.State.{DeviceState}
 use Rattle.hpb_device.specs.Task.{IsTaskOk, IsWaiting, IsQueue, IsServed, bytes_given, bytes_taken}
-use Rattle.hpb_device.proofs.Commands.{reads, writes}
+use Rattle.hpb_device.proofs.Commands.{reads}
 use Rattle.flat_unit.proofs.Listing.{length-entries_from}
 
 -- the task of a history, of which these bytes have come

@@ -1,8 +1,7 @@
 -- What the entries that a device has listed say of its chip.
-use Rattle.std.specs.Prelude.{⊤, ◌≡◌, ℕ, false, List, [], ◌∷◌, Option}
+use Rattle.std.specs.Prelude.{⊤, ◌≡◌, false, List, [], ◌∷◌}
 use Rattle.std.specs.Bool.{OnTrue}
 use Rattle.flash_pages.specs.Chip.{Page}
-use Rattle.flash_pages.specs.Place.{Place}
 use Rattle.flash_pages.specs.Unit.{current}
 use Rattle.hpb_cdb.specs.declared.cdb.Cdb.{Cdb}
 use Rattle.hpb_cdb.specs.declared.cdb.Cdb.TheVariants.{HpbRead}

@@ -1,5 +1,5 @@
 -- Where a device stands in a history.
-use Rattle.std.specs.Prelude.{ℕ, true, List, [], ◌∷◌, Option, Some, None, if◌then◌else◌}
+use Rattle.std.specs.Prelude.{ℕ, true, List, [], ◌∷◌, Some, None, if◌then◌else◌}
 use Rattle.std.specs.Option.{option_map}
 use Rattle.flash_pages.specs.Unit.{unit_of, next_seq}
 use Rattle.flat_unit.specs.declared.event.Event.{Event}

@@ -1,4 +1,4 @@
-use Rattle.std.proofs.Common.{◌≡◌, ℕ, ◌<◌, true, false, List, map, drop, Some, None, sym, ◌∙◌, ap, subst, arith, rules, refl}
+use Rattle.std.proofs.Common.{◌≡◌, ◌<◌, true, false, List, map, drop, sym, ◌∙◌, subst, rules, refl}
 use Rattle.upiu_wire.specs.Upiu.{upiu_at}
 use Rattle.hpb_device.specs.declared.task.Task.{Task}
 use Rattle.hpb_device.specs.Accept.{goes_on}

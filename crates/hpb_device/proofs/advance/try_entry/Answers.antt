@@ -1,4 +1,4 @@
-use Rattle.std.proofs.Common.{◌≡◌, ℕ, ◌+◌, ◌/◌, ◌<◌, List, length, arith, sym, rules, refl, ap, subst, ◌∙◌}
+use Rattle.std.proofs.Common.{◌≡◌, ℕ, ◌/◌, List, length, arith, sym, rules, refl, ap, subst, ◌∙◌}
 use Rattle.flash_pages.specs.Place.{Place}
 use Rattle.flash_pages.specs.Unit.{block_of}
 use Rattle.flash_store.specs.Entries.{IsHonoured}

@@ -1,4 +1,4 @@
-use Rattle.std.proofs.Common.{◌≡◌, ◌⊎◌, ℕ, ◌+◌, ◌<◌, ◌≤◌, true, List, [], ◌∷◌, ◌++◌, drop, length, Some, refl, inl, inr, sym, ap, subst, ◌∙◌, arith, rules}
+use Rattle.std.proofs.Common.{◌≡◌, ℕ, ◌+◌, ◌<◌, ◌≤◌, true, List, [], ◌∷◌, ◌++◌, drop, length, Some, refl, inl, inr, sym, ap, subst, ◌∙◌, arith, rules}
 use Rattle.std.specs.Prelude.{sum_by}
 use Rattle.hpb_cdb.specs.declared.limits.Limits.{Limits}
 use Rattle.flat_unit.specs.Replays.{bound}

@@ -1,7 +1,6 @@
 use Rattle.std.specs.Prelude.{sum_by}
-use Rattle.std.proofs.Common.{◌≡◌, ◌*◌, ◌≤◌, length, Bool, ℕ, ◌<◌, List, ◌∷◌, drop, arith, Some, refl, sym, ap, subst, ◌∙◌, rules}
+use Rattle.std.proofs.Common.{◌≡◌, ◌*◌, ◌≤◌, length, Bool, ℕ, ◌<◌, List, ◌∷◌, drop, arith, refl, sym, ap, subst, ◌∙◌, rules}
 use Rattle.hpb_device.specs.declared.task.Task.{Task}
-use Rattle.hpb_device.specs.Standing.{DeviceStands}
 use Rattle.hpb_device.specs.State.{DeviceState, steps_left}
 use Rattle.hpb_cdb.specs.declared.limits.Limits.{Limits}
 use Rattle.hpb_device.specs.Advance.{Advances, AllTasks, IsSameStore, MakesACallAtMost}

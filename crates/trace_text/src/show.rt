@@ -393,7 +393,7 @@ fn decode(digits: &[u8], room: &mut [u8]) -> Option<usize>
     ensures short { IfSome result (λ count. count ≤ length room.old) }
 {
     let count = digits.len() / 2;
-    match hex::decode_to_slice(digits, &mut room[..count]) {
+    match hex_lanes::decode_to_slice(digits, &mut room[..count]) {
         Ok(()) => Some(count),
         Err(_) => None,
     }

@@ -1,5 +1,5 @@
 -- What is shown of a line of a transcript.
-use Rattle.std.specs.Prelude.{ℕ, ◌+◌, ◌/◌, ◌^◌, List, [], ◌∷◌, ◌++◌, length, drop, codes, decimal, nat_lt, Option, Some, None, Result, Ok, Err, if◌then◌else◌, option_map}
+use Rattle.std.specs.Prelude.{ℕ, Bool, true, false, ◌+◌, ◌/◌, ◌^◌, List, [], ◌∷◌, ◌++◌, length, drop, codes, decimal, nat_lt, Option, Some, None, Result, Ok, Err, if◌then◌else◌, option_map}
 use Rattle.std.specs.Option.{option_or}
 use Rattle.std.specs.Int.{w64, to_be_bytes}
 use Rattle.hex.specs.Hex.{encode_lower, decode_of}
@@ -158,6 +158,12 @@ marked_digits line = option_or (after (codes "U ") line) (option_or (after (code
 abbrev pub decoded : Result (List ℕ) FromHexError → Option (List ℕ)
 decoded (Ok bytes) = Some bytes
 decoded (Err _) = None
+
+-- whether a UPIU of this kind is a RESPONSE, of whose segment something is shown
+abbrev pub is_response : Option Kind → Bool
+is_response (Some Response) = true
+is_response (Some _) = false
+is_response None = false
 
 -- what is shown of a line, by the digits of its UPIU: any other line is copied
 abbrev pub shown_by : Option (List ℕ) → List ℕ → Option (List ℕ)

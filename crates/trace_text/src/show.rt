@@ -5,7 +5,8 @@ ghost use Rattle.upiu_wire.specs.Upiu.{upiu_at};
 ghost use Rattle.trace_text.specs.declared.show.TheConstants.{SHOWN_BYTES, TEXT_BYTES};
 ghost use Rattle.trace_text.specs.declared.window.TheConstants.{LINE_BYTES};
 ghost use Rattle.trace_text.specs.Written.{Puts};
-ghost use Rattle.trace_text.specs.Shown.{named, byte_text, digit_text, command_text, cdb_text, pair_text, pairs_text, regions_text, sense_of, fixed_text, hint_text, sense_text, kind_name, moved_text, rest_text, upiu_text, shown_upiu, bytes_text, marked_digits, decoded, shown_line, any_limits};
+ghost use Rattle.trace_text.specs.Shown.{named, byte_text, digit_text, command_text, cdb_text, pair_text, pairs_text, regions_text, sense_of, fixed_text, hint_text, sense_text, kind_name, moved_text, rest_text, upiu_text, shown_upiu, bytes_text, marked_digits, decoded, is_response, shown_line, any_limits};
+ghost use Rattle.upiu_wire.specs.Kind.{kind_of};
 ghost use Rattle.hpb_cdb.specs.Read.{cdb_of};
 ghost use Rattle.upiu_wire.specs.WireFault.{wire_fault_of};
 
@@ -21,6 +22,9 @@ pub const SHOWN_BYTES: usize = 131_201;
 
 /// The bytes of the text of a UPIU at most.
 const TEXT_BYTES: usize = 512;
+
+/// The digits of the header of a UPIU.
+const HEADER_DIGITS: usize = 64;
 
 /// The text of a UPIU, as far as it is built.
 type Text = ArrayVec<u8, TEXT_BYTES>;
@@ -391,6 +395,7 @@ fn decode(digits: &[u8], room: &mut [u8]) -> Option<usize>
     requires { length digits.now / 2 ≤ length room.old }
     ensures bytes { option_map (λ count. take count room.new) result ≡ decoded (decode_of digits.now) }
     ensures short { IfSome result (λ count. count ≤ length room.old) }
+    ensures half { IfSome result (λ count. count ≡ length digits.now / 2) }
 {
     let count = digits.len() / 2;
     match hex_lanes::decode_to_slice(digits, &mut room[..count]) {
@@ -399,10 +404,40 @@ fn decode(digits: &[u8], room: &mut [u8]) -> Option<usize>
     }
 }
 
+/// Whether a UPIU with this first byte is a RESPONSE.
+fn is_response(code: u8) -> bool
+    ensures { result ≡ is_response (kind_of code) }
+{
+    matches!(Kind::from_code(code), Some(Kind::Response))
+}
+
+/// Answers how many bytes hex text has, and writes those that are shown to the front of the room: of a UPIU that is no
+/// RESPONSE its header alone.
+fn read_shown(digits: &[u8], room: &mut [u8]) -> Option<usize>
+    requires { length digits.now / 2 ≤ length room.old }
+    ensures shown { option_map (λ count. shown_upiu (take count room.new)) result ≡ option_map shown_upiu (decoded (decode_of digits.now)) }
+    ensures short { IfSome result (λ count. count ≤ length room.old) }
+{
+    if digits.len() < HEADER_DIGITS || digits.len() % 2 != 0 {
+        return decode(digits, room);
+    }
+    let (header, rest) = digits.split_at(HEADER_DIGITS);
+    if decode(header, room).is_none() {
+        return None;
+    }
+    if is_response(room[0]) {
+        return decode(digits, room);
+    }
+    if !hex_lanes::are_digits(rest) {
+        return None;
+    }
+    Some(digits.len() / 2)
+}
+
 /// Writes what is shown of a line of a transcript, with its end, to the front of `out`, and answers how many bytes it
 /// has. The line comes without its end. For one that begins with `U `, `> ` or `< ` this is a line about the UPIU
 /// whose hex digits follow, and there is nothing where they are odd in number or one is no hex digit. Any other line
-/// is copied. The bytes of the UPIU are written to the front of the room.
+/// is copied. The room is overwritten.
 pub fn put_shown(line: &[u8], room: &mut [u8], out: &mut [u8]) -> Option<usize>
     requires line { length line.now ≤ LINE_BYTES }
     requires room { 65600 ≤ length room.old }
@@ -414,7 +449,7 @@ pub fn put_shown(line: &[u8], room: &mut [u8], out: &mut [u8]) -> Option<usize>
     match marked_digits(line) {
         None => Some(put_line(line, out)),
         Some(digits) => {
-            let count = decode(digits, room)?;
+            let count = read_shown(digits, room)?;
             Some(put_shown_upiu(&room[..count], out))
         }
     }

@@ -1,5 +1,5 @@
 -- Hex text of which the header alone was read.
-use Rattle.std.proofs.Common.{◌≡◌, ℕ, ◌+◌, ◌*◌, ◌/◌, ◌%◌, ◌<◌, ◌≤◌, Bool, true, false, List, ◌++◌, length, take, drop, get_or, slice_index, Option, Some, None, option_map, Result, Ok, Err, refl, sym, ap, ◌∙◌, arith}
+use Rattle.std.proofs.Common.{◌≡◌, ℕ, ◌/◌, ◌%◌, ◌≤◌, Bool, true, false, List, ◌++◌, length, take, drop, slice_index, Option, Some, None, option_map, Result, Ok, Err, refl, sym, ap, ◌∙◌, arith}
 use Rattle.std.specs.Prelude.{IfSome, is_some}
 use Rattle.std.specs.List.{AllPass, list_all}
 use Rattle.std.proofs.Math.Seq.{take-append_seam}

@@ -15,7 +15,7 @@ use std::marker::Model;
 use trace_text::{put_event, put_shown, put_upiu};
 
 /// The bytes that are gathered at most.
-const OUTPUT_BYTES: usize = 524_288;
+const OUTPUT_BYTES: usize = 262_144;
 
 /// The room that the lines of one call need at most: a UPIU of the host of 65,568 bytes and its answer, as hex.
 pub(crate) const LINE_ROOM: usize = 139_520;

@@ -16,7 +16,7 @@ returns-then-is_err-clause-turn g c start before p at printed =
 
 pub push_upiu-requires-in-Upiu : goal.push_upiu-requires-in-Upiu
 push_upiu-requires-in-Upiu g c =
-    let room : length c.make_room.new.output + 139520 ≤ 524288 = search rules in
+    let room : length c.make_room.new.output + 139520 ≤ 262144 = search rules in
     let line = length-Host c.args.bytes.now in
     let now : length c.push_upiu.new.self ≡ length c.make_room.new.output + length (line_of (Host c.args.bytes.now)) = ap length c.push_upiu.ensures ∙ length-append c.make_room.new.output (line_of (Host c.args.bytes.now)) in
     omega (arith, room, line, now, c.requires, c.bytes.ensures.fits)

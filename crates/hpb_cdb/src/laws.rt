@@ -8,6 +8,8 @@ ghost use Rattle.hpb_cdb.specs.declared.limits.Limits.{Limits};
 
 /// Bytes are one command at most or have one first fault, and the answer that computes is that one.
 pub fn one_answer()
-    ensures command { (lim : Limits) (cdb : List ℕ) (command : Cdb) → (cdb_of lim cdb ≡ Ok command) ↔ IsCdb cdb lim command }
-    ensures fault { (lim : Limits) (cdb : List ℕ) (fault : CdbFault) → (cdb_of lim cdb ≡ Err fault) ↔ IsFault cdb lim fault }
+    ensures command { (lim : Limits) (cdb : List ℕ) (command : Cdb)
+        → (cdb_of lim cdb ≡ Ok command) ↔ IsCdb cdb lim command }
+    ensures fault { (lim : Limits) (cdb : List ℕ) (fault : CdbFault)
+        → (cdb_of lim cdb ≡ Err fault) ↔ IsFault cdb lim fault }
 {}

@@ -4,3 +4,6 @@
 mod shape;
 
 pub use shape::{Mode, Shape};
+
+#[cfg(test)]
+mod tests;

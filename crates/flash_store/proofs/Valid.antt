@@ -86,7 +86,8 @@ false-replicate (suc count) (suc n) = false-replicate count n
 pub valid-erased : (count n : ℕ) → get_or (replicate count false) n false ≡ is_valid_page (replicate count Erased) n
 valid-erased count n = false-replicate count n ∙ sym (ap (has_current (replicate count Erased) n) (page_at-erased count n))
 
-module _ (chip : List Page) (flags : List Bool) (page : ℕ) (bytes : List ℕ) (spare : Spare) (whole : length flags ≡ length chip) (each : (n : ℕ) → get_or flags n false ≡ is_valid_page chip n) (inside : page < length chip) (erased : page_at chip page ≡ Erased) (next : spare.seq ≡ next_seq chip) where
+module _ (chip : List Page) (flags : List Bool) (page : ℕ) (bytes : List ℕ) (spare : Spare) (whole : length flags ≡ length chip) (each : (n : ℕ)
+    → get_or flags n false ≡ is_valid_page chip n) (inside : page < length chip) (erased : page_at chip page ≡ Erased) (next : spare.seq ≡ next_seq chip) where
   abbrev programmed : List Page
   programmed = set chip page (Written bytes spare)
 

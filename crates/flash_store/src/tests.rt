@@ -85,5 +85,6 @@ fn entries_are_the_numbers_of_current_pages(rt: HostRuntime) -> Result<(), Fail>
     assert!(rt; store.read_by_entry(0, 2, 2).is_err());
     assert_eq!(rt; store.hits(), 0);
     assert_eq!(rt; store.geometry(), CHIP);
+    assert!(rt; can_serve(CHIP, 2, 4) && !can_serve(CHIP, 2, 5));
     Ok(())
 }

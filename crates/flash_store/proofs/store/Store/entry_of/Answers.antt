@@ -9,7 +9,8 @@ returns-in_default-clause-entry g c =
     let chip = g.F.Flash.pages s.flash in
     let place : Place = record { lun = c.args.lun; lba = c.args.lba } in
     let key : c.key-key.result ≡ index_of s.units place = search rules in
-    let was : c.lookup.result ≡ current chip place = c.lookup.ensures.page ∙ ap (λ k. slice_index_or s.map.pages k None) key ∙ c.self.invariant.mapped place (record { lun = search rules; lba = search rules }) in
+    let was : c.lookup.result ≡ current chip place = c.lookup.ensures.page ∙ ap (λ k. slice_index_or s.map.pages k None) key
+    ∙ c.self.invariant.mapped place (record { lun = search rules; lba = search rules }) in
     rw (← c.self.view_is) (ap (λ o. unwrap_or o (2 ^ 64 - 1)) (sym c.in_default.is ∙ was))
 
 pub returns-clause-entry : goal.returns-clause-entry
@@ -18,5 +19,6 @@ returns-clause-entry g c =
     let chip = g.F.Flash.pages s.flash in
     let place : Place = record { lun = c.args.lun; lba = c.args.lba } in
     let key : c.key-key.result ≡ index_of s.units place = search rules in
-    let was : c.lookup.result ≡ current chip place = c.lookup.ensures.page ∙ ap (λ k. slice_index_or s.map.pages k None) key ∙ c.self.invariant.mapped place (record { lun = search rules; lba = search rules }) in
+    let was : c.lookup.result ≡ current chip place = c.lookup.ensures.page ∙ ap (λ k. slice_index_or s.map.pages k None) key
+    ∙ c.self.invariant.mapped place (record { lun = search rules; lba = search rules }) in
     rw (← c.self.view_is) (c.from.ensures ∙ ap (λ o. unwrap_or o (2 ^ 64 - 1)) (sym c.in-Some.is ∙ was))

@@ -25,10 +25,11 @@ use Rattle.flat_unit.proofs.Moves.{device_changes, device_code, device_shows}
 use Rattle.flat_unit.proofs.Queue.{queue_after}
 use Rattle.flat_unit.proofs.Steps.{cause_foreign}
 
-pub foreign_begun : (s : Sizes) (unit : List Block) (next : ℕ) (kept : Kept) → kept.tasks ≡ [] → kept.on ≡ true → StandsForeign s (record { unit = unit; next = next }) kept []
-foreign_begun s unit next kept none on = record { keeps = sym none; switch = sym on; sound = record { so_far = tt; nothing_owed = refl }; caused = tt }
+pub foreign_begun : (s : Sizes) (unit : List Block) (next free : ℕ) (kept : Kept) → kept.tasks ≡ [] → kept.on ≡ true → StandsForeign s (record { unit = unit; next = next; free = free }) kept []
+foreign_begun s unit next free kept none on = record { keeps = sym none; switch = sym on; sound = record { so_far = tt; nothing_owed = refl }; caused = tt }
 
-same_reply : (s : Sizes) (first : First) (kept : Kept) (e : History) (bytes : List ℕ) (r : Option Upiu) → StandsForeign s first kept e → reply_of s kept.on kept.tasks bytes ≡ r → reply_of s (on_after e) (tasks_after s e) bytes ≡ r
+same_reply : (s : Sizes) (first : First) (kept : Kept) (e : History) (bytes : List ℕ) (r : Option Upiu) → StandsForeign s first kept e → reply_of s kept.on kept.tasks bytes ≡ r
+    → reply_of s (on_after e) (tasks_after s e) bytes ≡ r
 same_reply s first kept e bytes r at is = ap (λ (on : Bool). reply_of s on (tasks_after s e) bytes) at.switch ∙ ap (λ (ts : List Task). reply_of s kept.on ts bytes) at.keeps ∙ is
 
 -- the host's bytes are kept
@@ -73,7 +74,8 @@ foreign_ended s first kept e task others fits at =
     let queue = queue_after s e in
     let alone = subst (λ (ts : List Task). AreApart ts) at.keeps queue.apart in
     record {
-      keeps = device_changes s (on_after e) (tasks_after s e) v consistent ∙ ap (λ (t : List Task). after_sent v v.kind t) at.keeps ∙ response_changes task others 2 (task.expected - task.sent - length task.come) (fixed_out chip_failed) alone.0;
+      keeps = device_changes s (on_after e) (tasks_after s e) v consistent ∙ ap (λ (t : List Task). after_sent v v.kind t) at.keeps
+          ∙ response_changes task others 2 (task.expected - task.sent - length task.come) (fixed_out chip_failed) alone.0;
       switch = at.switch;
       sound = sent_sound s first.unit e (upiu_out v) at.sound (
         subst (λ (t : List Task). MaySend s t (upiu_out v)) (sym at.keeps) (Check chip_failed, may_end_failed task.command, refl),

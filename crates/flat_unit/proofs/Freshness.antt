@@ -131,7 +131,8 @@ fresh_event s page_of e ev lists keeps p x place fresh =
     by_entry false is b one = kept (first_holds (not (x == no_page)) _ fresh) (both_hold b (was_listed s e p x) one)
 
 -- a page that collection moved is no more the one that was listed
-pub fresh_moved : (s : Sizes) (page_of : Place → Option ℕ) (e : History) (place : Place) (page : ℕ) → KeepsFresh s page_of e → KeepsFresh s (with_page place page page_of) (e ▹ Moved place.lun place.lba)
+pub fresh_moved : (s : Sizes) (page_of : Place → Option ℕ) (e : History) (place : Place) (page : ℕ) → KeepsFresh s page_of e
+    → KeepsFresh s (with_page place page page_of) (e ▹ Moved place.lun place.lba)
 fresh_moved s page_of e place page keeps p x is_place fresh =
     by_same (is_same place p) (not (x == no_page)) refl refl fresh
   where

@@ -14,6 +14,7 @@ use Rattle.upiu_wire.specs.Upiu.{Upiu, IsConsistent}
 use Rattle.upiu_wire.specs.Written.{data_upiu, transfer_upiu, response_upiu}
 use Rattle.flat_unit.specs.Command.{is_write}
 use Rattle.flat_unit.specs.Contents.{Block, Shown, Leaving, answered, block_at, block_written, is_among, is_same, leaving_all, next_place, offset_in, seen_at, shown_at, shown_by_kind, with_block, candidates}
+use Rattle.flat_unit.specs.Harmless.{IsHarmless}
 use Rattle.flat_unit.specs.History.{History}
 use Rattle.flat_unit.specs.Queue.{after_sent, with_asked, with_sent, without_tag}
 use Rattle.flat_unit.specs.Reply.{has_tag}
@@ -96,13 +97,6 @@ progress_at_most s programmed _ task same is = omega arith
 at_false : {b : Bool} (P : Type 0) {Q : Type 0} → b ≡ false → Q → MatchBool b P Q
 at_false P {Q} is q = subst (λ (b : Bool). MatchBool b P Q) (sym is) q
 
--- a UPIU that ends no task and shows no block
-pub record IsHarmless (s : Sizes) (tasks : List Task) (v : Upiu) : Type 0 where
-  pub consistent : IsConsistent v
-  pub tasks_stay : after_sent v v.kind tasks ≡ tasks
-  pub none_leaves : answered v v.kind tasks ≡ []
-  pub none_shown : shown_by_kind s v v.kind tasks ≡ None
-
 pub goes_harmless : (s : Sizes) (first : First) (kept : Kept) (e : History) (v : Upiu) → IsHarmless s kept.tasks v → HasProgress s kept.programmed kept.tasks → Goes s first kept kept e v
 goes_harmless s first kept e v harmless progress = record {
   consistent = harmless.consistent;
@@ -114,6 +108,9 @@ goes_harmless s first kept e v harmless progress = record {
       (subst (λ (w : Option Shown). HoldsAt s kept (seen_at p (candidates s first.unit e p) w) p) (sym harmless.none_shown) held);
   at_least = let none : sum_by blocks_ended (answered v v.kind kept.tasks) ≡ 0 = ap (sum_by blocks_ended) harmless.none_leaves in omega arith;
   at_most = omega arith;
+  next = refl;
+  free = refl;
+  erases = refl;
 }
 
 -- a block that is shown at one place changes no other
@@ -130,10 +127,12 @@ seen_holds s unit p q block blocks false P is had =
     is ∙ (λ i. block_at s unit (record { lun = lun i; lba = lba i })))
 
 -- DATA IN of the first task
-data_changes : (s : Sizes) (task : Task) (others : List Task) (bytes : List ℕ) → after_sent (data_upiu DataIn task.lun task.tag task.sent bytes) DataIn (task ∷ others) ≡ with_sent (length bytes) task ∷ others
+data_changes : (s : Sizes) (task : Task) (others : List Task) (bytes : List ℕ) → after_sent (data_upiu DataIn task.lun task.tag task.sent bytes) DataIn (task ∷ others) ≡ with_sent (length bytes) task
+    ∷ others
 data_changes s task others bytes = ap (λ (b : Bool). (if b then with_sent (length bytes) task else task) ∷ others) (same_tag task.tag)
 
-pub data_shows : (s : Sizes) (task : Task) (others : List Task) (bytes : List ℕ) → shown_by_kind s (data_upiu DataIn task.lun task.tag task.sent bytes) DataIn (task ∷ others) ≡ shown_at (data_upiu DataIn task.lun task.tag task.sent bytes) (next_place s task task.command)
+pub data_shows : (s : Sizes) (task : Task) (others : List Task) (bytes : List ℕ)
+    → shown_by_kind s (data_upiu DataIn task.lun task.tag task.sent bytes) DataIn (task ∷ others) ≡ shown_at (data_upiu DataIn task.lun task.tag task.sent bytes) (next_place s task task.command)
 data_shows s task others bytes = ap (λ (b : Bool). if b then shown_at (data_upiu DataIn task.lun task.tag task.sent bytes) (next_place s task task.command) else None) (same_tag task.tag)
 
 pub goes_shown : (s : Sizes) (first : First) (kept : Kept) (e : History) (task : Task) (others : List Task) (p : Place) (block : Block)
@@ -151,6 +150,9 @@ goes_shown s first kept e task others p block consistent next is progress = reco
       (seen_holds s kept.unit p q block (candidates s first.unit e q) (is_programmed kept.programmed (task ∷ others) q) (head_block s (task ∷ others) q ≡ Some (block_at s kept.unit q)) is held);
   at_least = omega arith;
   at_most = omega arith;
+  next = refl;
+  free = refl;
+  erases = refl;
 }
 
 -- DATA IN of a command that shows no block
@@ -169,6 +171,9 @@ goes_data s first kept e task others bytes consistent next progress = record {
       held;
   at_least = omega arith;
   at_most = omega arith;
+  next = refl;
+  free = refl;
+  erases = refl;
 }
 
 -- READY TO TRANSFER of the first task
@@ -184,6 +189,9 @@ goes_asked s first kept e task others count consistent progress = record {
   holds = λ q place held. held;
   at_least = omega arith;
   at_most = omega arith;
+  next = refl;
+  free = refl;
+  erases = refl;
 }
 
 -- RESPONSE to the first task: it alone leaves
@@ -225,6 +233,9 @@ goes_ended s first kept e task others status residual segment consistent alone w
           (at_false _ (none_programmed others p) (leaves.held p held));
       at_least = omega (arith, leaves.at_least, ends);
       at_most = omega (arith, leaves.at_most);
+      next = refl;
+      free = refl;
+      erases = refl;
     }
 
 -- a command that is no write

@@ -31,7 +31,8 @@ pub hinted_good : (shape : Shape) (s : Sizes) (e : History) (task : Task) (other
 hinted_good shape s e task others segment consistent keeps alone is hinted =
     hinted_sent shape s e (upiu_of s task (Good segment)) consistent
     (subst (λ (ls : List Leaving). HintsDue shape s e segment (filter (λ (l : Leaving). l.good) ls))
-    (sym (ap (λ (ts : List Task). answered (upiu_of s task (Good segment)) (upiu_of s task (Good segment)).kind ts) keeps ∙ response_leaves task others 0 (task.expected - needed s task.command) segment alone))
+    (sym (ap (λ (ts : List Task). answered (upiu_of s task (Good segment)) (upiu_of s task (Good segment)).kind ts) keeps
+    ∙ response_leaves task others 0 (task.expected - needed s task.command) segment alone))
     (is, tt))
     hinted
 
@@ -49,9 +50,12 @@ pub machine_good : (shape : Shape) (s : Sizes) (lun : ℕ) (e : History) (task :
 machine_good shape s lun e task others segment consistent keeps alone =
     machine_sent shape s lun e (upiu_of s task (Good segment)) consistent
     ∙ ap (λ (ls : List Leaving). fold (told_at (on_after e)) (machine_after shape s lun e) (filter (good_of_unit lun) ls))
-    (ap (λ (ts : List Task). answered (upiu_of s task (Good segment)) (upiu_of s task (Good segment)).kind ts) keeps ∙ response_leaves task others 0 (task.expected - needed s task.command) segment alone)
+    (ap (λ (ts : List Task). answered (upiu_of s task (Good segment)) (upiu_of s task (Good segment)).kind ts) keeps
+    ∙ response_leaves task others 0 (task.expected - needed s task.command) segment alone)
     ∙ by_unit (task.lun == lun)
   where
-    by_unit : (b : Bool) → fold (told_at (on_after e)) (machine_after shape s lun e) (cond b (record { task = task; good = true } ∷ []) []) ≡ (if b then told_at (on_after e) (machine_after shape s lun e) (record { task = task; good = true }) else machine_after shape s lun e)
+    by_unit : (b : Bool)
+        → fold (told_at (on_after e)) (machine_after shape s lun e) (cond b (record { task = task; good = true }
+        ∷ []) []) ≡ (if b then told_at (on_after e) (machine_after shape s lun e) (record { task = task; good = true }) else machine_after shape s lun e)
     by_unit true = refl
     by_unit false = refl

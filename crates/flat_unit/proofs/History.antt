@@ -3,6 +3,7 @@ use Rattle.std.proofs.Common.{Option, ◌≡◌, ℕ, ◌+◌, ◌^◌, ◌<◌,
 use Rattle.std.proofs.lemmas.List.{append_assoc, append-nil}
 use Rattle.std.proofs.lemmas.Bool.Decides.{nat_tests}
 use Rattle.std.specs.Prelude.{flat_map, if◌then◌else◌}
+use Rattle.std.specs.List.{AllByRecursion}
 use Rattle.byteorder.specs.Numbers.{big_number-reads_back}
 use Rattle.upiu_wire.specs.declared.kind.Kind.{Kind}
 use Rattle.upiu_wire.specs.declared.kind.Kind.TheVariants.{NopOut, Command, DataOut, ManageRequest, QueryRequest, DataIn, ReadyToTransfer}
@@ -12,10 +13,11 @@ use Rattle.upiu_wire.specs.declared.fault.WireFault.{WireFault}
 use Rattle.upiu_wire.specs.Written.{transfer_upiu, data_upiu, response_upiu, reject_upiu}
 use Rattle.upiu_wire.proofs.Reading.{upiu_at-upiu, wire_fault_of-upiu}
 use Rattle.upiu_wire.proofs.Writing.{reads-upiu_out}
-use Rattle.flat_unit.specs.Causes.{failures}
+use Rattle.flat_unit.specs.Causes.{FailuresAre, failures}
 use Rattle.flat_unit.specs.declared.event.Event.{Event}
 use Rattle.flat_unit.specs.declared.event.Event.TheVariants.{Host, Device, Failed}
 use Rattle.flat_unit.specs.History.{History, ◌▹◌, followed_by}
+use Rattle.flat_unit.specs.Laws.{AreShort, HasRoom, HaveRoom, IsShort}
 use Rattle.flat_unit.specs.Manage.{manage_events}
 use Rattle.flat_unit.specs.Query.{query_events}
 use Rattle.flat_unit.specs.Sizes.{Sizes}
@@ -67,7 +69,8 @@ unfolding print
 print-▹ e x = refl
 
 -- what the newest bytes of the host owe
-pub owes_reply : (s : Sizes) (e : History) (bytes : List ℕ) (v : Upiu) → reply_of s (on_after e) (tasks_after s e) bytes ≡ Some v → owed s (e ▹ Host bytes) ≡ Device (upiu_out v) ∷ effects_of s (on_after e) (tasks_after s e) bytes
+pub owes_reply : (s : Sizes) (e : History) (bytes : List ℕ) (v : Upiu) → reply_of s (on_after e) (tasks_after s e) bytes ≡ Some v → owed s (e ▹ Host bytes) ≡ Device (upiu_out v)
+    ∷ effects_of s (on_after e) (tasks_after s e) bytes
 owes_reply s e bytes v is = ap (reply_events (effects_of s (on_after e) (tasks_after s e) bytes)) is
 
 pub owes_nothing : (s : Sizes) (e : History) (bytes : List ℕ) → reply_of s (on_after e) (tasks_after s e) bytes ≡ None → owed s (e ▹ Host bytes) ≡ []
@@ -84,7 +87,8 @@ received_kept s u e bytes sound is = record { so_far = comes s u e (Host bytes) 
 pub owed_comes : (s : Sizes) (u : List Block) (e : History) (x : Event) (rest : List Event) → SoundSoFar s u e → owed s e ≡ x ∷ rest → SoundSoFar s u (e ▹ x)
 owed_comes s u e x rest so_far is = (so_far, subst (λ (due : List Event). Comes s u e due x) (sym is) refl)
 
-pub received_answered : (s : Sizes) (u : List Block) (e : History) (bytes : List ℕ) (v : Upiu) → Sound s u e → reply_of s (on_after e) (tasks_after s e) bytes ≡ Some v → effects_of s (on_after e) (tasks_after s e) bytes ≡ [] → Sound s u (e ▹ Host bytes ▹ Device (upiu_out v))
+pub received_answered : (s : Sizes) (u : List Block) (e : History) (bytes : List ℕ) (v : Upiu) → Sound s u e → reply_of s (on_after e) (tasks_after s e) bytes ≡ Some v
+    → effects_of s (on_after e) (tasks_after s e) bytes ≡ [] → Sound s u (e ▹ Host bytes ▹ Device (upiu_out v))
 received_answered s u e bytes v sound is none = record {
   so_far = owed_comes s u (e ▹ Host bytes) (Device (upiu_out v)) _ (comes s u e (Host bytes) sound tt) (owes_reply s e bytes v is);
   nothing_owed = ap (λ (due : List Event). drop 1 due) (owes_reply s e bytes v is) ∙ none;
@@ -100,7 +104,8 @@ replays_more s [] line p mid now is step = (now, subst (λ (q : Progress). LineT
 replays_more s (l ∷ lines) line p mid now r step = (r.0, r.1, replays_more s lines line r.0 mid now r.2 step)
 
 -- what answers bytes that are no UPIU
-pub reply_to_fault : (s : Sizes) (on : Bool) (tasks : List Task) (bytes : List ℕ) (fault : WireFault) → wire_fault_of bytes ≡ Some fault → reply_of s on tasks bytes ≡ Some (fault_rejection bytes (number_of fault))
+pub reply_to_fault : (s : Sizes) (on : Bool) (tasks : List Task) (bytes : List ℕ) (fault : WireFault) → wire_fault_of bytes ≡ Some fault
+    → reply_of s on tasks bytes ≡ Some (fault_rejection bytes (number_of fault))
 unfolding reply_of
 reply_to_fault s on tasks bytes fault is = ap (reply_by_fault s on tasks bytes) is
 
@@ -109,20 +114,24 @@ unfolding effects_of
 no_effects_of_fault s on tasks bytes fault is = ap (effects_by_fault s on tasks bytes) is
 
 -- what answers a UPIU of a kind
-pub reply_to_kind : (s : Sizes) (on : Bool) (tasks : List Task) (bytes : List ℕ) (kind : Kind) → wire_fault_of bytes ≡ None → (upiu_at bytes).kind ≡ kind → reply_of s on tasks bytes ≡ reply_by_kind kind s on tasks (upiu_at bytes)
+pub reply_to_kind : (s : Sizes) (on : Bool) (tasks : List Task) (bytes : List ℕ) (kind : Kind) → wire_fault_of bytes ≡ None → (upiu_at bytes).kind ≡ kind
+    → reply_of s on tasks bytes ≡ reply_by_kind kind s on tasks (upiu_at bytes)
 unfolding reply_of
 reply_to_kind s on tasks bytes kind is same = ap (reply_by_fault s on tasks bytes) is ∙ ap (λ (k : Kind). reply_by_kind k s on tasks (upiu_at bytes)) same
 
-pub effects_of_kind : (s : Sizes) (on : Bool) (tasks : List Task) (bytes : List ℕ) (kind : Kind) → wire_fault_of bytes ≡ None → (upiu_at bytes).kind ≡ kind → effects_of s on tasks bytes ≡ effects_by_kind kind s on tasks (upiu_at bytes)
+pub effects_of_kind : (s : Sizes) (on : Bool) (tasks : List Task) (bytes : List ℕ) (kind : Kind) → wire_fault_of bytes ≡ None → (upiu_at bytes).kind ≡ kind
+    → effects_of s on tasks bytes ≡ effects_by_kind kind s on tasks (upiu_at bytes)
 unfolding effects_of
 effects_of_kind s on tasks bytes kind is same = ap (effects_by_fault s on tasks bytes) is ∙ ap (λ (k : Kind). effects_by_kind k s on tasks (upiu_at bytes)) same
 
 -- what is kept of a UPIU of a kind that nothing answers
-pub kept_of_kind : (s : Sizes) (on : Bool) (tasks : List Task) (bytes : List ℕ) (kind : Kind) → (upiu_at bytes).kind ≡ kind → reply_of s on tasks bytes ≡ None → tasks_changed s on tasks (Host bytes) ≡ after_kept s tasks (upiu_at bytes) kind
+pub kept_of_kind : (s : Sizes) (on : Bool) (tasks : List Task) (bytes : List ℕ) (kind : Kind) → (upiu_at bytes).kind ≡ kind → reply_of s on tasks bytes ≡ None
+    → tasks_changed s on tasks (Host bytes) ≡ after_kept s tasks (upiu_at bytes) kind
 kept_of_kind s on tasks bytes kind same silent = ap (after_reply s tasks (upiu_at bytes)) silent ∙ ap (λ (k : Kind). after_kept s tasks (upiu_at bytes) k) same
 
 -- a UPIU of a kind that is not served
-pub other_kind : (kind : Kind) (s : Sizes) (on : Bool) (tasks : List Task) (v : Upiu) → (kind ≡ NopOut → ⊥) → (kind ≡ Command → ⊥) → (kind ≡ DataOut → ⊥) → s.queries ≡ false → s.manages ≡ false → reply_by_kind kind s on tasks v ≡ Some (not_served v)
+pub other_kind : (kind : Kind) (s : Sizes) (on : Bool) (tasks : List Task) (v : Upiu) → (kind ≡ NopOut → ⊥) → (kind ≡ Command → ⊥) → (kind ≡ DataOut → ⊥) → s.queries ≡ false → s.manages ≡ false
+    → reply_by_kind kind s on tasks v ≡ Some (not_served v)
 other_kind NopOut s on tasks v no_nop no_command no_data no_queries no_manages = absurd (no_nop refl)
 other_kind Command s on tasks v no_nop no_command no_data no_queries no_manages = absurd (no_command refl)
 other_kind DataOut s on tasks v no_nop no_command no_data no_queries no_manages = absurd (no_data refl)
@@ -140,6 +149,23 @@ pub failures-followed_by : (e : History) (xs : List Event) → failures (followe
 failures-followed_by e [] = omega arith
 failures-followed_by e (Failed op ∷ xs) = omega (arith, failures-followed_by (e ▹ Failed op) xs, failures-followed_by ([] ▹ Failed op) xs)
 failures-followed_by e (x ∷ xs) = failures-followed_by (e ▹ x) xs ∙ omega (arith, failures-followed_by ([] ▹ x) xs)
+
+-- a count of faults that rises by the failures of a history, and then by those of several events
+pub failures_are-followed_by : (a b c : ℕ) (e : History) (xs : List Event) → FailuresAre a b e → FailuresAre b c (followed_by [] xs) → FailuresAre a c (followed_by e xs)
+failures_are-followed_by a b c e xs before after =
+    let e = failures-followed_by e xs in
+    record { least = omega (arith, before.least, before.most, after.least, after.most); most = omega (arith, before.most, after.most) }
+
+-- what holds of each event holds of each of more events
+all-followed_by : (P : Event → Type 0) (e : History) (xs : List Event) → AllByRecursion P e → AllByRecursion P xs → AllByRecursion P (followed_by e xs)
+all-followed_by P e [] before after = before
+all-followed_by P e (x ∷ xs) before after = all-followed_by P (e ▹ x) xs (after.0, before) after.1
+
+pub have_room-followed_by : (e : History) (xs : List Event) → HaveRoom e → HaveRoom xs → HaveRoom (followed_by e xs)
+have_room-followed_by e xs before after = all-followed_by HasRoom e xs before after
+
+pub are_short-followed_by : (e : History) (xs : List Event) → AreShort e → AreShort xs → AreShort (followed_by e xs)
+are_short-followed_by e xs before after = all-followed_by IsShort e xs before after
 
 -- a step that is due and sends
 pub due_step : (s : Sizes) (p : Progress) (g : Group) (bytes : List ℕ) → is_due s p ≡ true → g.moved ≡ None → g.sent ≡ Some bytes → StepTo s p (stepped s p g)

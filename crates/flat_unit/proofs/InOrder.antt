@@ -19,7 +19,7 @@ use Rattle.upiu_wire.specs.Kind.{kind_of}
 use Rattle.upiu_wire.specs.Upiu.{Upiu, upiu_at, upiu_out}
 use Rattle.upiu_wire.specs.Written.{data_upiu}
 use Rattle.flat_unit.specs.declared.event.Event.TheVariants.{Host, Device, Reset, Gone}
-use Rattle.flat_unit.specs.Command.{bytes_given, command_of}
+use Rattle.flat_unit.specs.Command.{ReadsBlocks, bytes_given, command_of}
 use Rattle.flat_unit.specs.Contents.{Block, Shown, leaving, next_place, shown_at, shown_by_kind}
 use Rattle.flat_unit.specs.History.{History, ◌▹◌}
 use Rattle.flat_unit.specs.Laws.{FirstAlone, HasSent, places_from, shown_by_first, shown_next}
@@ -122,7 +122,8 @@ next_block s lun lba sent ws block some whole had =
 
 -- DATA IN of the first task
 data_sent : (s : Sizes) (task : Task) (others : List Task) (ws : List Shown) (bytes : List ℕ) → 0 < s.block → s.block < 2 ^ 16 → Allows s task (Data bytes) → FirstSent s (task ∷ others) ws
-    → FirstSent s (with_sent (length bytes) task ∷ others) (shown_next (shown_at (record (data_upiu DataIn task.lun task.tag task.sent bytes) { segment = bytes }) (next_place s task task.command)) true ws)
+    → FirstSent s (with_sent (length bytes) task
+    ∷ others) (shown_next (shown_at (record (data_upiu DataIn task.lun task.tag task.sent bytes) { segment = bytes }) (next_place s task task.command)) true ws)
 data_sent s task others ws bytes some fits allows had = by_command task.command allows.1 had
   where
     by_command : (command : Cdb) → IsPiece s task command bytes → SentBy s task command ws
@@ -180,7 +181,8 @@ with_fields s u task others ws bytes some fits allows tag count segment had =
     (subst (λ (n : ℕ). FirstSent s (with_sent n task ∷ others) (shown_next (shown_at u (next_place s task task.command)) (task.tag == task.tag) ws)) (sym count)
     (subst (λ (o : Option Shown). FirstSent s (with_sent (length bytes) task ∷ others) (shown_next o (task.tag == task.tag) ws))
     (sym (shown_same u (record (data_upiu DataIn task.lun task.tag task.sent bytes) { segment = bytes }) (next_place s task task.command) segment))
-    (subst (λ (b : Bool). FirstSent s (with_sent (length bytes) task ∷ others) (shown_next (shown_at (record (data_upiu DataIn task.lun task.tag task.sent bytes) { segment = bytes }) (next_place s task task.command)) b ws)) (sym (same_tag task.tag))
+    (subst (λ (b : Bool). FirstSent s (with_sent (length bytes) task
+    ∷ others) (shown_next (shown_at (record (data_upiu DataIn task.lun task.tag task.sent bytes) { segment = bytes }) (next_place s task task.command)) b ws)) (sym (same_tag task.tag))
     (data_sent s task others ws bytes some fits allows had))))
 
 -- after what a step sends
@@ -191,12 +193,16 @@ sent_tag : (lun tag offset : ℕ) (bytes : List ℕ) → (upiu_at (upiu_out (dat
 unfolding upiu_at upiu_out kind_of
 sent_tag lun tag offset bytes = refl
 
-sent_device : (s : Sizes) (tasks : List Task) (ws : List Shown) (bytes : List ℕ) → 0 < s.block → s.block < 2 ^ 16 → IsQueue s tasks → MaySend s tasks bytes → FirstSent s tasks ws → ByUpiu s tasks ws (upiu_at bytes)
+sent_device : (s : Sizes) (tasks : List Task) (ws : List Shown) (bytes : List ℕ) → 0 < s.block → s.block < 2 ^ 16 → IsQueue s tasks → MaySend s tasks bytes → FirstSent s tasks ws
+    → ByUpiu s tasks ws (upiu_at bytes)
 sent_device s [] ws bytes some fits queue may had = absurd may
 sent_device s (task ∷ others) ws bytes some fits queue (a, allows, is) had = subst (λ (b : List ℕ). ByUpiu s (task ∷ others) ws (upiu_at b)) (sym is) (by_answer a allows)
   where
-    by_kind : (k : Kind) (u : Upiu) → u.kind ≡ k → FirstSent s (after_sent u k (task ∷ others)) (shown_next (shown_by_kind s u k (task ∷ others)) (keeps_head (task ∷ others) (after_sent u k (task ∷ others))) ws) → ByUpiu s (task ∷ others) ws u
-    by_kind k u same held = subst (λ (x : Kind). FirstSent s (after_sent u x (task ∷ others)) (shown_next (shown_by_kind s u x (task ∷ others)) (keeps_head (task ∷ others) (after_sent u x (task ∷ others))) ws)) (sym same) held
+    by_kind : (k : Kind) (u : Upiu) → u.kind ≡ k
+        → FirstSent s (after_sent u k (task ∷ others)) (shown_next (shown_by_kind s u k (task ∷ others)) (keeps_head (task ∷ others) (after_sent u k (task ∷ others))) ws)
+        → ByUpiu s (task ∷ others) ws u
+    by_kind k u same held = subst (λ (x : Kind). FirstSent s (after_sent u x (task
+        ∷ others)) (shown_next (shown_by_kind s u x (task ∷ others)) (keeps_head (task ∷ others) (after_sent u x (task ∷ others))) ws)) (sym same) held
 
     by_answer : (a : Answer) → Allows s task a → ByUpiu s (task ∷ others) ws (upiu_at (upiu_out (upiu_of s task a)))
     by_answer (Data piece) allows =
@@ -225,15 +231,26 @@ first_sent s u (Reset ∷ e) some fits sound = none_left (tasks_after s e) (firs
     none_left (task ∷ _) had = refl
 first_sent s u (_ ∷ e) some fits sound = same_tasks s (tasks_after s e) (shown_by_first s e) (first_sent s u e some fits sound.0)
 
+-- what a read has sent, and what it gives
+read_sent : (s : Sizes) (task : Task) (command : Cdb) (lba n : ℕ) (ws : List Shown) → ReadsBlocks command lba n → SentBy s task command ws → HasSent s task.lun lba task.sent ws
+read_sent s task (Read first count) lba n ws reads had = subst (λ (l : ℕ). HasSent s task.lun l task.sent ws) reads.0 had
+read_sent s task (HpbRead first entry count id) lba n ws reads had = subst (λ (l : ℕ). HasSent s task.lun l task.sent ws) reads.0 had
+read_sent s task _ lba n ws reads had = absurd reads
+
+read_gives : (s : Sizes) (command : Cdb) (lba n : ℕ) → ReadsBlocks command lba n → bytes_given s command ≡ s.block * n
+read_gives s (Read first count) lba n reads = ap (λ (m : ℕ). s.block * m) reads.1
+read_gives s (HpbRead first entry count id) lba n reads = ap (λ (m : ℕ). s.block * m) reads.1
+read_gives s _ lba n reads = absurd reads
+
 -- a read that is answered GOOD has sent exactly its blocks, in order
 pub good_read : (s : Sizes) (u : List Block) (e : History) (bytes : List ℕ) (task : Task) (lba n : ℕ) → 0 < s.block → s.block < 2 ^ 16 → SoundSoFar s u (e ▹ Device bytes)
-    → leaving (tasks_after s e) (Device bytes) ≡ record { task = task; good = true } ∷ [] → task.command ≡ Read lba n
+    → leaving (tasks_after s e) (Device bytes) ≡ record { task = task; good = true } ∷ [] → ReadsBlocks task.command lba n
     → map (λ (w : Shown). w.place) (shown_by_first s e) ≡ places_from task.lun lba n
 good_read s u e bytes task lba n some fits sound leaves is =
     let first = subst (FirstAlone (tasks_after s e)) leaves (first_ends s u e bytes sound) in
     let had : SentBy s task task.command (shown_by_first s e) = subst (λ (ts : List Task). FirstSent s ts (shown_by_first s e)) first.1 (first_sent s u e some fits sound.0) in
-    let read : HasSent s task.lun lba task.sent (shown_by_first s e) = subst (λ (c : Cdb). SentBy s task c (shown_by_first s e)) is had in
-    let all : task.sent ≡ s.block * n = (good_moved s u e bytes task sound leaves).sent ∙ ap (bytes_given s) is in
+    let read : HasSent s task.lun lba task.sent (shown_by_first s e) = read_sent s task task.command lba n (shown_by_first s e) is had in
+    let all : task.sent ≡ s.block * n = (good_moved s u e bytes task sound leaves).sent ∙ read_gives s task.command lba n is in
     let count : read.count ≡ n =
     sym (mul-div_cancel_left read.count some) ∙ ap (λ (m : ℕ). m / s.block) (sym read.sent_whole ∙ all) ∙ mul-div_cancel_left n some in
     read.places ∙ ap (places_from task.lun lba) count

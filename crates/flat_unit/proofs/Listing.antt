@@ -80,7 +80,8 @@ number_at : (entry_of : ℕ → ℕ) (first count bytes k lba : ℕ) → 8 * k +
 number_at entry_of first count bytes k lba within is fits =
     let size = length-entries_from entry_of first count in
     let short = shorter (entries_from entry_of first count) bytes in
-    ap (λ (l : List ℕ). big_number 8 l) (range_of_first (entries_from entry_of first count) bytes (8 * k) (8 * k + 8) (omega arith) within ∙ entry_at entry_of first count k lba (omega (arith, size, short, within)) is)
+    ap (λ (l : List ℕ). big_number 8 l) (range_of_first (entries_from entry_of first count) bytes (8 * k) (8 * k + 8) (omega arith) within
+    ∙ entry_at entry_of first count k lba (omega (arith, size, short, within)) is)
     ∙ ap (λ (l : List ℕ). big_number 8 l) (sym (append-nil (big_bytes 8 (entry_of lba))))
     ∙ big_number-reads_back 8 (entry_of lba) [] fits
 
@@ -126,3 +127,29 @@ listed_entry s task region sub len count bytes entry_of p x reads whole fits is 
     by_place true false unit from is = cc
     by_place true true unit from is =
         (number_told entry_of start task.sent count bytes p.lba x whole (grind (arith, nat_tests)) (fits p.lba) is, sym (eqb-true task.lun p.lun unit))
+
+-- a piece of a subregion's list has all bytes of each entry that it lists
+pub listed_within : (s : Sizes) (task : Task) (region sub len : ℕ) (piece : List ℕ) (p : Place) (x : ℕ)
+    → task.command ≡ ReadBuffer region sub len → listed_by s task task.command piece p ≡ Some x
+    → (first_block s region sub ≤ p.lba) × (8 * (p.lba - first_block s region sub) + 8 ≤ task.sent + length piece)
+listed_within s task region sub len piece p x reads is =
+    by_place (task.lun == p.lun) (nat_le start p.lba) refl (subst (λ (command : Cdb). listed_by s task command piece p ≡ Some x) reads is)
+  where
+    start : ℕ
+    start = first_block s region sub
+
+    place : ℕ
+    place = 8 * (p.lba - start)
+
+    by_bounds : (a b : Bool) → nat_le task.sent place ≡ a → nat_le (place + 8) (task.sent + length piece) ≡ b
+        → (if a && b then Some (big_number 8 (slice_range piece (place - task.sent) (place - task.sent + 8))) else None) ≡ Some x → place + 8 ≤ task.sent + length piece
+    by_bounds false b low high is = cc
+    by_bounds true false low high is = cc
+    by_bounds true true low high is = grind (arith, nat_tests)
+
+    by_place : (a b : Bool) → nat_le start p.lba ≡ b → (if a && b then number_in piece task.sent place else None) ≡ Some x
+        → (start ≤ p.lba) × (place + 8 ≤ task.sent + length piece)
+    by_place false b from is = cc
+    by_place true false from is = cc
+    by_place true true from is =
+        (grind (arith, nat_tests), by_bounds (nat_le task.sent place) (nat_le (place + 8) (task.sent + length piece)) refl refl is)

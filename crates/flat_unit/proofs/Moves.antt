@@ -44,6 +44,9 @@ pub record Goes (s : Sizes) (first : First) (kept now : Kept) (e : History) (v :
       → HoldsAt s now (seen_at p (fold_left s (candidates s first.unit e p) (answered v v.kind kept.tasks) p) (shown_by_kind s v v.kind kept.tasks)) p
   pub at_least : sum_by blocks_ended (answered v v.kind kept.tasks) + now.programmed + kept.next ≤ kept.programmed + now.next
   pub at_most : now.next + blocks_of_head s now.tasks + kept.programmed ≤ kept.next + blocks_of_head s kept.tasks + now.programmed
+  pub next : now.next ≡ kept.next
+  pub free : now.free ≡ kept.free
+  pub erases : now.erases ≡ kept.erases
 
 -- the device holds what it must, after a UPIU
 pub holds_on : (s : Sizes) (first : First) (kept now : Kept) (e : History) (v : Upiu) (p : Place) → Goes s first kept now e v → IsPlace s.luns s.units p
@@ -67,7 +70,8 @@ pub stands_sent : (s : Sizes) (first : First) (kept now : Kept) (e : History) (v
     → IsCandidate (candidates s first.unit e) (shown_by_kind s v v.kind kept.tasks) → SendHasCause s ⊥ first.next e (code_in v v.kind)
     → Stands s first kept e → Stands s first now (e ▹ Device (upiu_out v))
 stands_sent s first kept now e v goes may candidate cause at =
-    let shows : shown s (tasks_after s e) (Device (upiu_out v)) ≡ shown_by_kind s v v.kind kept.tasks = device_shows s (tasks_after s e) v goes.consistent ∙ ap (λ (t : List Task). shown_by_kind s v v.kind t) at.keeps in
+    let shows : shown s (tasks_after s e) (Device (upiu_out v)) ≡ shown_by_kind s v v.kind kept.tasks = device_shows s (tasks_after s e) v goes.consistent
+    ∙ ap (λ (t : List Task). shown_by_kind s v v.kind t) at.keeps in
     let ended = ends_on s first kept now e v goes (tasks_after s e) at.keeps in
     record {
       keeps = device_changes s (on_after e) (tasks_after s e) v goes.consistent ∙ ap (λ (t : List Task). after_sent v v.kind t) at.keeps ∙ goes.tasks;
@@ -76,6 +80,7 @@ stands_sent s first kept now e v goes may candidate cause at =
       holds = λ p place. holds_on s first kept now e v p goes place (tasks_after s e) at.keeps (at.holds p place);
       at_least = omega (arith, ended, at.at_least, goes.at_least);
       at_most = omega (arith, at.at_most, goes.at_most);
+      free = rw (goes.free, goes.next, goes.erases) at.free;
       sound = sent_sound s first.unit e (upiu_out v) at.sound (
         subst (λ (t : List Task). MaySend s t (upiu_out v)) (sym at.keeps) may,
         subst (λ (w : Option Shown). IsCandidate (candidates s first.unit e) w) (sym shows) candidate,

@@ -98,16 +98,17 @@ abbrev pub with_page : Place → ℕ → (Place → Option ℕ) → Place → Op
 with_page place page page_of p = if is_same place p then Some page else page_of p
 
 -- a block of the first task is programmed
-pub pages_programmed : (s : Sizes) (had : Place → Bool) (kept : Kept) (page_of : Place → Option ℕ) (e : History) (task : Task) (others : List Task) (lba n page : ℕ)
+pub pages_programmed : (s : Sizes) (had : Place → Bool) (kept : Kept) (page_of : Place → Option ℕ) (e : History) (task : Task) (others : List Task) (lba n free page : ℕ)
     → task.command ≡ Write lba n → kept.programmed < n → 0 < length task.come → tasks_after s e ≡ task ∷ others
     → HasPages s had (with_tasks (task ∷ others) kept) page_of e
-    → HasPages s had (programmed_more s (task ∷ others) task lba kept) (with_page (record { lun = task.lun; lba = lba + kept.programmed }) page page_of) e
-pages_programmed s had kept page_of e task others lba n page is more come keeps has = record {
+    → HasPages s had (programmed_more s (task ∷ others) task lba free kept) (with_page (record { lun = task.lun; lba = lba + kept.programmed }) page page_of) e
+pages_programmed s had kept page_of e task others lba n free page is more come keeps has = record {
   there = λ p place one. by_place p place (is_same (record { lun = task.lun; lba = lba + kept.programmed }) p) refl one;
   absent = λ p place none. gone_place p place (is_same (record { lun = task.lun; lba = lba + kept.programmed }) p) refl none;
 }
   where
-    fewer : (p : Place) → is_same (record { lun = task.lun; lba = lba + kept.programmed }) p ≡ false → is_programmed (kept.programmed + 1) (task ∷ others) p ≡ true → is_programmed kept.programmed (task ∷ others) p ≡ true
+    fewer : (p : Place) → is_same (record { lun = task.lun; lba = lba + kept.programmed }) p ≡ false → is_programmed (kept.programmed + 1) (task ∷ others) p ≡ true
+        → is_programmed kept.programmed (task ∷ others) p ≡ true
     fewer p other one =
         subst (λ (c : Cdb). is_programmed_for kept.programmed task c p ≡ true) (sym is)
         (sym (among_next task.lun lba kept.programmed p other) ∙ subst (λ (c : Cdb). is_programmed_for (kept.programmed + 1) task c p ≡ true) is one)
@@ -120,7 +121,8 @@ pages_programmed s had kept page_of e task others lba n page is more come keeps 
     by_place : (p : Place) → IsPlace s.luns s.units p → (b : Bool) → is_same (record { lun = task.lun; lba = lba + kept.programmed }) p ≡ b
         → (had p || (is_settled s e p || is_programmed (kept.programmed + 1) (task ∷ others) p)) ≡ true → is_some (if b then Some page else page_of p) ≡ true
     by_place p place true same one = refl
-    by_place p place false same one = has.there p place (split (had p) (is_settled s e p) (is_programmed (kept.programmed + 1) (task ∷ others) p) (is_programmed kept.programmed (task ∷ others) p) (fewer p same) one)
+    by_place p place false same one = has.there p place (split (had p) (is_settled s e p) (is_programmed (kept.programmed + 1) (task ∷ others) p) (is_programmed kept.programmed (task
+        ∷ others) p) (fewer p same) one)
 
     right_false : (a b : Bool) → (a || b) ≡ false → b ≡ false
     right_false false b none = none

@@ -164,14 +164,17 @@ same_place : (a b : Bool) (lun lba lun' lba' : ℕ) → (lun == 0) ≡ a → (lu
 same_place true true lun lba lun' lba' is_zero is_zero' p q p' q' is =
     (eqb-true lun 0 is_zero ∙ sym (eqb-true lun' 0 is_zero'), decimal_injective lba lba' (omega arith) (omega arith) is)
 same_place true false lun lba lun' lba' is_zero is_zero' p q p' q' is =
-    let e : decimal lba ∷ [] ≡ decimal lun' ∷ decimal lba' ∷ [] = sym (lba_part lba q) ∙ ap (parts_of 58) is ∙ colon_parts lun' lba' p' q' ∙ ap (λ (l : List (List ℕ)). decimal lun' ∷ l) (lba_part lba' q') in
+    let e : decimal lba ∷ [] ≡ decimal lun' ∷ decimal lba' ∷ [] = sym (lba_part lba q) ∙ ap (parts_of 58) is ∙ colon_parts lun' lba' p' q'
+    ∙ ap (λ (l : List (List ℕ)). decimal lun' ∷ l) (lba_part lba' q') in
     absurd (cc)
 same_place false true lun lba lun' lba' is_zero is_zero' p q p' q' is =
-    let e : decimal lba' ∷ [] ≡ decimal lun ∷ decimal lba ∷ [] = sym (lba_part lba' q') ∙ ap (parts_of 58) (sym is) ∙ colon_parts lun lba p q ∙ ap (λ (l : List (List ℕ)). decimal lun ∷ l) (lba_part lba q) in
+    let e : decimal lba' ∷ [] ≡ decimal lun ∷ decimal lba ∷ [] = sym (lba_part lba' q') ∙ ap (parts_of 58) (sym is) ∙ colon_parts lun lba p q
+    ∙ ap (λ (l : List (List ℕ)). decimal lun ∷ l) (lba_part lba q) in
     absurd (cc)
 same_place false false lun lba lun' lba' is_zero is_zero' p q p' q' is =
     let e : decimal lun ∷ decimal lba ∷ [] ≡ decimal lun' ∷ decimal lba' ∷ [] =
-    sym (colon_parts lun lba p q ∙ ap (λ (l : List (List ℕ)). decimal lun ∷ l) (lba_part lba q)) ∙ ap (parts_of 58) is ∙ colon_parts lun' lba' p' q' ∙ ap (λ (l : List (List ℕ)). decimal lun' ∷ l) (lba_part lba' q') in
+    sym (colon_parts lun lba p q ∙ ap (λ (l : List (List ℕ)). decimal lun ∷ l) (lba_part lba q)) ∙ ap (parts_of 58) is ∙ colon_parts lun' lba' p' q'
+    ∙ ap (λ (l : List (List ℕ)). decimal lun' ∷ l) (lba_part lba' q') in
     let one : decimal lun ≡ decimal lun' = cc in
     let two : decimal lba ≡ decimal lba' = cc in
     (decimal_injective lun lun' (omega arith) (omega arith) one, decimal_injective lba lba' (omega arith) (omega arith) two)

@@ -107,7 +107,7 @@ apart_more (task ∷ tasks) new apart alone =
       | false ↦ λ other is. (any_more (has_tag task.tag) tasks new apart.0 (tag_symmetric task.tag new.tag other), apart_more tasks new apart.1 is)
     ] refl alone
 
-all_more : (P : Task → Type 0) (tasks : List Task) (new : Task) → AllByRecursion P tasks → P new → AllByRecursion P (tasks ++ new ∷ [])
+pub all_more : (P : Task → Type 0) (tasks : List Task) (new : Task) → AllByRecursion P tasks → P new → AllByRecursion P (tasks ++ new ∷ [])
 all_more P [] new all is = (is, tt)
 all_more P (task ∷ tasks) new all is = (all.0, all_more P tasks new all.1 is)
 
@@ -132,7 +132,8 @@ if_served : (s : Sizes) (b : Bool) (f : Task → Task) (t : Task) → (IsServed 
 if_served s true f t serves is = serves is
 if_served s false f t serves is = is
 
-head_with_tag : (s : Sizes) (tag : ℕ) (f : Task → Task) (tasks : List Task) → ((t : Task) → (f t).tag ≡ t.tag) → ((t : Task) → IsServed s t → IsServed s (f t)) → IsQueue s tasks → IsQueue s (change_head_with_tag tag f tasks)
+head_with_tag : (s : Sizes) (tag : ℕ) (f : Task → Task) (tasks : List Task) → ((t : Task) → (f t).tag ≡ t.tag) → ((t : Task) → IsServed s t → IsServed s (f t)) → IsQueue s tasks
+    → IsQueue s (change_head_with_tag tag f tasks)
 head_with_tag s tag f tasks same serves q =
     queue_head s (λ (t : Task). if has_tag tag t then f t else t) tasks (λ t. if_same_tag (has_tag tag t) f t (same t)) (λ t. if_served s (has_tag tag t) f t (serves t)) q
 

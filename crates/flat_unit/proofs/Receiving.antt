@@ -34,8 +34,12 @@ record Replied (s : Sizes) (first : First) (kept : Kept) (e : History) (v : Upiu
       → HoldsAt s (ended_by kind v.tag kept) (seen_at p (fold_left s (candidates s first.unit e p) (answered v kind kept.tasks) p) (shown_by_kind s v kind kept.tasks)) p
   at_least : sum_by blocks_ended (answered v kind kept.tasks) + (ended_by kind v.tag kept).programmed + kept.next ≤ kept.programmed + (ended_by kind v.tag kept).next
   at_most : (ended_by kind v.tag kept).next + blocks_of_head s (ended_by kind v.tag kept).tasks + kept.programmed ≤ kept.next + blocks_of_head s kept.tasks + (ended_by kind v.tag kept).programmed
+  next : (ended_by kind v.tag kept).next ≡ kept.next
+  free : (ended_by kind v.tag kept).free ≡ kept.free
+  erases : (ended_by kind v.tag kept).erases ≡ kept.erases
 
-replied_by : (s : Sizes) (first : First) (kept : Kept) (e : History) (v : Upiu) (kind : Kind) → IsReply v kind → IsQueue s kept.tasks → HasProgress s kept.programmed kept.tasks → Replied s first kept e v kind
+replied_by : (s : Sizes) (first : First) (kept : Kept) (e : History) (v : Upiu) (kind : Kind) → IsReply v kind → IsQueue s kept.tasks → HasProgress s kept.programmed kept.tasks
+    → Replied s first kept e v kind
 replied_by s first kept e v DataIn is queue progress = absurd is
 replied_by s first kept e v ReadyToTransfer is queue progress = absurd is
 replied_by s first kept e v Response is queue progress =
@@ -50,8 +54,21 @@ replied_by s first kept e v Response is queue progress =
       holds = λ p held. subst (λ (b : Bool). HoldsAt s (gone_from v.tag kept) (fold_left s (candidates s first.unit e p) (leaving_all b (filter (has_tag v.tag) kept.tasks)) p) p) (sym is) (goes.holds p held);
       at_least = omega (arith, none, bad, goes.at_least);
       at_most = omega (arith, goes.at_most);
+      next = refl;
+      free = refl;
+      erases = refl;
     }
-replied_by s first kept e v _ is queue progress = record { tasks = refl; switch = refl; progress = progress; holds = λ p held. held; at_least = omega arith; at_most = omega arith }
+replied_by s first kept e v _ is queue progress = record {
+  tasks = refl;
+  switch = refl;
+  progress = progress;
+  holds = λ p held. held;
+  at_least = omega arith;
+  at_most = omega arith;
+  next = refl;
+  free = refl;
+  erases = refl;
+}
 
 -- whatever is answered at once keeps a device standing
 pub stands_reply : (s : Sizes) (first : First) (kept : Kept) (e : History) (bytes : List ℕ) (v : Upiu) → IsConsistent v
@@ -61,7 +78,18 @@ stands_reply s first kept e bytes v consistent is no_effects at =
     let queue : IsQueue s kept.tasks = queue_of s first kept e at in
     let r = replied_by s first kept e v v.kind (reply_is s kept.on kept.tasks bytes v queue is).1 queue at.progress in
     stands_replied s first kept (ended_by v.kind v.tag kept) e bytes v is no_effects
-    (record { consistent = consistent; tasks = r.tasks; switch = r.switch; progress = r.progress; holds = λ p place. r.holds p; at_least = r.at_least; at_most = r.at_most })
+    (record {
+      consistent = consistent;
+      tasks = r.tasks;
+      switch = r.switch;
+      progress = r.progress;
+      holds = λ p place. r.holds p;
+      at_least = r.at_least;
+      at_most = r.at_most;
+      next = r.next;
+      free = r.free;
+      erases = r.erases;
+    })
     at
 
 -- whatever isn't answered at once is kept

@@ -77,7 +77,8 @@ reason_of (a ∷ b ∷ []) reason = refl
 reason_of (a ∷ []) reason = refl
 reason_of [] reason = refl
 
-pub rejected : (s : Sizes) (on : Bool) (tasks : List Task) (bytes : List ℕ) (lun tag reason : ℕ) → reason ≤ 6 → reply_of s on tasks bytes ≡ Some (reject_upiu lun tag reason) → IsRejectedFor bytes reason
+pub rejected : (s : Sizes) (on : Bool) (tasks : List Task) (bytes : List ℕ) (lun tag reason : ℕ) → reason ≤ 6 → reply_of s on tasks bytes ≡ Some (reject_upiu lun tag reason)
+    → IsRejectedFor bytes reason
 unfolding reply_of
 rejected s on tasks bytes lun tag reason early = by_fault (wire_fault_of bytes) refl
   where
@@ -90,6 +91,7 @@ rejected s on tasks bytes lun tag reason early = by_fault (wire_fault_of bytes) 
         let late : 7 * 2 ^ 24 ≤ reason * 2 ^ 24 = (kind_late (upiu_at bytes).kind s on tasks (upiu_at bytes)).late (reject_upiu lun tag reason) is in
         absurd (omega arith)
 
-pub rejection : (s : Sizes) (on : Bool) (tasks : List Task) (bytes : List ℕ) (fault : WireFault) → wire_fault_of bytes ≡ Some fault → reply_of s on tasks bytes ≡ Some (fault_rejection bytes (number_of fault))
+pub rejection : (s : Sizes) (on : Bool) (tasks : List Task) (bytes : List ℕ) (fault : WireFault) → wire_fault_of bytes ≡ Some fault
+    → reply_of s on tasks bytes ≡ Some (fault_rejection bytes (number_of fault))
 unfolding reply_of
 rejection s on tasks bytes fault is = ap (reply_by_fault s on tasks bytes) is

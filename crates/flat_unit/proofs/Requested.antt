@@ -9,6 +9,7 @@ use Rattle.flat_unit.specs.declared.event.Event.{Event}
 use Rattle.flat_unit.specs.declared.event.Event.TheVariants.{Host, Device, Cleared, Switched, Gone}
 use Rattle.flat_unit.specs.Causes.{EventHasCause}
 use Rattle.flat_unit.specs.Contents.{Block, Leaving, block_at, block_written, candidates, leaving_all}
+use Rattle.flat_unit.specs.Harmless.{IsHarmless}
 use Rattle.flat_unit.specs.History.{History, ◌▹◌, followed_by}
 use Rattle.flat_unit.specs.Queue.{after_reply, after_sent, on_after, tasks_after, without_tag}
 use Rattle.flat_unit.specs.Reply.{effects_of, has_tag, reply_of}
@@ -18,7 +19,7 @@ use Rattle.flat_unit.specs.Stands.{First, HasProgress, HoldsAt, Kept, Stands, St
 use Rattle.flat_unit.specs.Task.{Task}
 use Rattle.flat_unit.specs.Tasks.{IsQueue}
 use Rattle.flat_unit.specs.Writes.{blocks_ended, blocks_of_head}
-use Rattle.flat_unit.proofs.Goes.{IsHarmless, goes_harmless, leaves_cut, no_blocks, no_progress, none_programmed, stays_block, with_tasks}
+use Rattle.flat_unit.proofs.Goes.{goes_harmless, leaves_cut, no_blocks, no_progress, none_programmed, stays_block, with_tasks}
 use Rattle.flat_unit.proofs.History.{comes, owed_comes, owes_reply}
 use Rattle.flat_unit.proofs.Moves.{Goes, device_changes, ends_on, fold_left, holds_on}
 use Rattle.flat_unit.proofs.Queue.{others_stay, queue_after}
@@ -26,10 +27,29 @@ use Rattle.flat_unit.proofs.Steps.{progress_within}
 use Rattle.flat_unit.proofs.Subject.{AreRequested}
 
 pub but_sound : (s : Sizes) (first : First) (kept : Kept) (e : History) → Stands s first kept e → StandsButSound s first kept e
-but_sound s first kept e at = record { keeps = at.keeps; switch = at.switch; progress = at.progress; holds = at.holds; at_least = at.at_least; at_most = at.at_most; caused = at.caused }
+but_sound s first kept e at = record {
+  keeps = at.keeps;
+  switch = at.switch;
+  progress = at.progress;
+  holds = at.holds;
+  at_least = at.at_least;
+  at_most = at.at_most;
+  free = at.free;
+  caused = at.caused;
+}
 
 pub with_sound : (s : Sizes) (first : First) (kept : Kept) (e : History) → StandsButSound s first kept e → Sound s first.unit e → Stands s first kept e
-with_sound s first kept e at sound = record { keeps = at.keeps; switch = at.switch; progress = at.progress; holds = at.holds; at_least = at.at_least; at_most = at.at_most; sound = sound; caused = at.caused }
+with_sound s first kept e at sound = record {
+  keeps = at.keeps;
+  switch = at.switch;
+  progress = at.progress;
+  holds = at.holds;
+  at_least = at.at_least;
+  at_most = at.at_most;
+  free = at.free;
+  sound = sound;
+  caused = at.caused;
+}
 
 -- a request and its reply leave all as it is
 pub requested : (s : Sizes) (first : First) (kept : Kept) (e : History) (bytes : List ℕ) (v : Upiu)
@@ -48,15 +68,34 @@ requested s first kept e bytes v is harmless at =
       holds = λ p place. holds_on s first kept kept (e ▹ Host bytes) v p goes place (tasks_after s (e ▹ Host bytes)) mid (at.holds p place);
       at_least = omega (arith, ended, at.at_least, goes.at_least);
       at_most = omega (arith, at.at_most);
+      free = at.free;
       caused = ((at.caused, tt), subst (λ (due : List Event). EventHasCause s ⊥ first.next (e ▹ Host bytes) (Device (upiu_out v)) due) (sym (owes_reply s e bytes v reply)) tt);
     }
 
 -- HPB is reset, or switched
 pub cleared : (s : Sizes) (first : First) (kept : Kept) (e : History) → StandsButSound s first kept e → StandsButSound s first kept (e ▹ Cleared)
-cleared s first kept e at = record { keeps = at.keeps; switch = at.switch; progress = at.progress; holds = at.holds; at_least = omega (arith, at.at_least); at_most = omega (arith, at.at_most); caused = (at.caused, tt) }
+cleared s first kept e at = record {
+  keeps = at.keeps;
+  switch = at.switch;
+  progress = at.progress;
+  holds = at.holds;
+  at_least = omega (arith, at.at_least);
+  at_most = omega (arith, at.at_most);
+  free = at.free;
+  caused = (at.caused, tt);
+}
 
 pub switched : (s : Sizes) (first : First) (kept : Kept) (e : History) (on : Bool) → StandsButSound s first kept e → StandsButSound s first (record kept { on = on }) (e ▹ Switched on)
-switched s first kept e on at = record { keeps = at.keeps; switch = refl; progress = at.progress; holds = at.holds; at_least = omega (arith, at.at_least); at_most = omega (arith, at.at_most); caused = (at.caused, tt) }
+switched s first kept e on at = record {
+  keeps = at.keeps;
+  switch = refl;
+  progress = at.progress;
+  holds = at.holds;
+  at_least = omega (arith, at.at_least);
+  at_most = omega (arith, at.at_most);
+  free = at.free;
+  caused = (at.caused, tt);
+}
 
 -- tasks that leave without GOOD only add candidates
 fold_stays : (s : Sizes) (p : Place) (block : Block) (tasks : List Task) (blocks : List Block) → Contains blocks block → Contains (fold_left s blocks (leaving_all false tasks) p) block
@@ -84,10 +123,13 @@ goes_from s first kept e tag [] queue progress = record { progress = progress; h
 goes_from s first kept e tag (task ∷ others) queue progress = by_head (has_tag tag task) refl
   where
     by_head : (b : Bool) → has_tag tag task ≡ b
-        → GoesFrom s first (with_tasks (task ∷ others) kept) (record kept { tasks = cond (not b) (task ∷ without_tag tag others) (without_tag tag others); programmed = if b then 0 else kept.programmed }) e (cond b (task ∷ filter (has_tag tag) others) (filter (has_tag tag) others))
+        → GoesFrom s first (with_tasks (task
+        ∷ others) kept) (record kept { tasks = cond (not b) (task ∷ without_tag tag others) (without_tag tag others); programmed = if b then 0 else kept.programmed }) e (cond b (task
+        ∷ filter (has_tag tag) others) (filter (has_tag tag) others))
     by_head false is = record {
       progress = progress;
-      holds = λ p held. match_stays (is_programmed kept.programmed (task ∷ others) p) _ (λ had. fold_stays s p (block_at s kept.unit p) (filter (has_tag tag) others) (candidates s first.unit e p) had) held;
+      holds = λ p held. match_stays (is_programmed kept.programmed (task
+          ∷ others) p) _ (λ had. fold_stays s p (block_at s kept.unit p) (filter (has_tag tag) others) (candidates s first.unit e p) had) held;
       at_least = omega arith;
       at_most = omega arith;
     }
@@ -101,7 +143,8 @@ goes_from s first kept e tag (task ∷ others) queue progress = by_head (has_tag
         record {
           progress = no_progress s (without_tag tag others);
           holds = λ p held.
-              subst (λ (b : Bool). MatchBool b (head_block s (without_tag tag others) p ≡ Some (block_at s kept.unit p)) (Contains (fold_left s (candidates s first.unit e p) (leaving_all false (task ∷ filter (has_tag tag) others)) p) (block_at s kept.unit p)))
+              subst (λ (b : Bool). MatchBool b (head_block s (without_tag tag others) p ≡ Some (block_at s kept.unit p)) (Contains (fold_left s (candidates s first.unit e p) (leaving_all false (task
+              ∷ filter (has_tag tag) others)) p) (block_at s kept.unit p)))
               (sym (none_programmed (without_tag tag others) p))
               (fold_stays s p (block_at s kept.unit p) (filter (has_tag tag) others) _ ((leaves_cut s first kept e task others progress).held p held));
           at_least = omega arith;
@@ -123,14 +166,17 @@ gone s first kept e tag at =
           (goes.holds p (at.holds p place));
       at_least = omega (arith, none, at.at_least, goes.at_least);
       at_most = omega (arith, at.at_most, goes.at_most);
+      free = at.free;
       caused = (at.caused, tt);
     }
 
 -- the reply that is owed, and what follows it
-pub replied_so_far : (s : Sizes) (u : List Block) (e : History) (bytes : List ℕ) (v : Upiu) → Sound s u e → reply_of s (on_after e) (tasks_after s e) bytes ≡ Some v → SoundSoFar s u (e ▹ Host bytes ▹ Device (upiu_out v))
+pub replied_so_far : (s : Sizes) (u : List Block) (e : History) (bytes : List ℕ) (v : Upiu) → Sound s u e → reply_of s (on_after e) (tasks_after s e) bytes ≡ Some v
+    → SoundSoFar s u (e ▹ Host bytes ▹ Device (upiu_out v))
 replied_so_far s u e bytes v sound is = owed_comes s u (e ▹ Host bytes) (Device (upiu_out v)) _ (comes s u e (Host bytes) sound tt) (owes_reply s e bytes v is)
 
-pub replied_owes : (s : Sizes) (e : History) (bytes : List ℕ) (v : Upiu) → reply_of s (on_after e) (tasks_after s e) bytes ≡ Some v → owed s (e ▹ Host bytes ▹ Device (upiu_out v)) ≡ effects_of s (on_after e) (tasks_after s e) bytes
+pub replied_owes : (s : Sizes) (e : History) (bytes : List ℕ) (v : Upiu) → reply_of s (on_after e) (tasks_after s e) bytes ≡ Some v
+    → owed s (e ▹ Host bytes ▹ Device (upiu_out v)) ≡ effects_of s (on_after e) (tasks_after s e) bytes
 replied_owes s e bytes v is = ap (λ (due : List Event). drop 1 due) (owes_reply s e bytes v is)
 
 -- once all that is owed has come the history is sound

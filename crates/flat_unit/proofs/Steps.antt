@@ -21,6 +21,7 @@ use Rattle.flat_unit.specs.declared.event.Event.TheVariants.{Host, Device, Reset
 use Rattle.flat_unit.specs.Causes.{HasCauseFor, MayBeFull, EventHasCause}
 use Rattle.flat_unit.specs.Command.{is_write, bytes_taken, needed, command_of}
 use Rattle.flat_unit.specs.Contents.{Block, Shown, Leaving, block_at, block_written, is_among, is_same, leaving_all, next_place, offset_in, shown_at, candidates}
+use Rattle.flat_unit.specs.Harmless.{IsHarmless}
 use Rattle.flat_unit.specs.History.{History, ◌▹◌}
 use Rattle.flat_unit.specs.Queue.{after_reply, after_sent, on_after, task_of, tasks_changed, tasks_after, with_asked, with_command, with_data, with_sent}
 use Rattle.flat_unit.specs.Reply.{check, effects_of, has_tag, reply_of}
@@ -32,32 +33,35 @@ use Rattle.flat_unit.specs.Stands.{Kept, First, HoldsAt, HasProgress, IsProgress
 use Rattle.flat_unit.specs.Task.{Task}
 use Rattle.flat_unit.specs.Tasks.{IsQueue, IsServed}
 use Rattle.flat_unit.specs.Writes.{blocks_ended, blocks_of_head, whole_blocks}
-use Rattle.flat_unit.proofs.Goes.{IsHarmless, data_shows, goes_asked, goes_data, goes_ended, goes_harmless, goes_shown, leaves_cut, leaves_good, leaves_no_write, stays_block, left_with, no_progress, none_programmed, with_tasks}
+use Rattle.flat_unit.proofs.Goes.{data_shows, goes_asked, goes_data, goes_ended, goes_harmless, goes_shown, leaves_cut, leaves_good, leaves_no_write, stays_block, left_with, no_progress, none_programmed, with_tasks}
 use Rattle.flat_unit.proofs.History.{comes, data-consistent, kept_of_kind, owes_reply, ready-consistent, received_answered, received_kept, reject-consistent, response-consistent}
 use Rattle.flat_unit.proofs.Moves.{Goes, device_changes, ends_on, fold_left, holds_on, stands_sent}
 use Rattle.flat_unit.proofs.Numbers.{more_blocks, range-append, same_lba, same_lun, within_bytes, within_luns}
 use Rattle.flat_unit.proofs.Queue.{none_has, others_stay, queue_after}
 
 -- the next block of a write is programmed at its place
-abbrev pub programmed_more : Sizes → List Task → Task → ℕ → Kept → Kept
-programmed_more s tasks task lba kept = record {
+abbrev pub programmed_more : Sizes → List Task → Task → (lba free : ℕ) → Kept → Kept
+programmed_more s tasks task lba free kept = record {
   tasks = tasks;
   on = kept.on;
   unit = slice_set kept.unit (index_of s.units (record { lun = task.lun; lba = lba + kept.programmed })) (slice_range task.come (s.block * kept.programmed) (s.block * kept.programmed + s.block));
   programmed = kept.programmed + 1;
   next = kept.next + 1;
+  free = free;
+  erases = kept.erases;
 }
 
 -- a device that was just made stands at the empty history
-pub stands_begun : (s : Sizes) (unit : List Block) (next : ℕ)
-    → Stands s (record { unit = unit; next = next }) (record { tasks = []; on = true; unit = unit; programmed = 0; next = next }) []
-stands_begun s unit next = record {
+pub stands_begun : (s : Sizes) (unit : List Block) (next free : ℕ)
+    → Stands s (record { unit = unit; next = next; free = free }) (record { tasks = []; on = true; unit = unit; programmed = 0; next = next; free = free; erases = 0 }) []
+stands_begun s unit next free = record {
   keeps = refl;
   switch = refl;
   progress = refl;
   holds = λ p place. (0, omega arith, refl);
   at_least = omega arith;
   at_most = omega arith;
+  free = omega arith;
   sound = record { so_far = tt; nothing_owed = refl };
   caused = tt;
 }
@@ -224,22 +228,39 @@ stands_failed s first kept e op at = record {
   holds = at.holds;
   at_least = omega (arith, at.at_least);
   at_most = omega (arith, at.at_most);
+  free = at.free;
   sound = record { so_far = comes s first.unit e (Failed op) at.sound tt; nothing_owed = ap (λ (due : List Event). drop 1 due) at.sound.nothing_owed };
   caused = (at.caused, tt);
 }
 
--- collection moved a page, under the next number
-pub stands_moved : (s : Sizes) (first : First) (kept : Kept) (e : History) (lun lba : ℕ) → Stands s first kept e
-    → Stands s first (record kept { next = kept.next + 1 }) (e ▹ Moved lun lba)
-stands_moved s first kept e lun lba at = record {
+-- collection moved a page to an erased one, under the next number
+pub stands_moved : (s : Sizes) (first : First) (kept : Kept) (e : History) (lun lba free : ℕ) → free + 1 ≡ kept.free → Stands s first kept e
+    → Stands s first (record kept { next = kept.next + 1; free = free }) (e ▹ Moved lun lba)
+stands_moved s first kept e lun lba free fewer at = record {
   keeps = at.keeps;
   switch = at.switch;
   progress = at.progress;
   holds = at.holds;
   at_least = omega (arith, at.at_least);
   at_most = omega (arith, at.at_most);
+  free = omega (arith, at.free);
   sound = record { so_far = comes s first.unit e (Moved lun lba) at.sound tt; nothing_owed = ap (λ (due : List Event). drop 1 due) at.sound.nothing_owed };
   caused = (at.caused, tt);
+}
+
+-- an erase block was erased
+pub stands_erased : (s : Sizes) (first : First) (kept : Kept) (e : History) → Stands s first kept e
+    → Stands s first (record kept { free = kept.free + s.erase_block; erases = kept.erases + 1 }) e
+stands_erased s first kept e at = record {
+  keeps = at.keeps;
+  switch = at.switch;
+  progress = at.progress;
+  holds = at.holds;
+  at_least = at.at_least;
+  at_most = at.at_most;
+  free = omega (arith, at.free);
+  sound = at.sound;
+  caused = at.caused;
 }
 
 -- the host's bytes are kept, and these tasks with them
@@ -262,6 +283,7 @@ host_kept s first kept e bytes now silent is progress holds at =
       holds = λ p place. holds p (at.holds p place);
       at_least = omega (arith, at.at_least);
       at_most = omega (arith, at.at_most, after, before);
+      free = at.free;
       sound = received_kept s first.unit e bytes at.sound same_reply;
       caused = (at.caused, tt);
     }
@@ -284,8 +306,10 @@ stands_accepted s first kept e bytes command silent kind reads at =
     holds_by : (p : Place) (tasks : List Task) → HasProgress s kept.programmed tasks
         → HoldsAt s (with_tasks tasks kept) (candidates s first.unit e p) p → HoldsAt s (with_tasks (tasks ++ task_of (upiu_at bytes) command ∷ []) kept) (candidates s first.unit e p) p
     holds_by p [] is held =
-        let none : is_programmed kept.programmed (task_of (upiu_at bytes) command ∷ []) p ≡ false = ap (λ (n : ℕ). is_programmed n (task_of (upiu_at bytes) command ∷ []) p) is ∙ none_programmed (task_of (upiu_at bytes) command ∷ []) p in
-        subst (λ (b : Bool). MatchBool b (head_block s (task_of (upiu_at bytes) command ∷ []) p ≡ Some (block_at s kept.unit p)) (Contains (candidates s first.unit e p) (block_at s kept.unit p))) (sym none) held
+        let none : is_programmed kept.programmed (task_of (upiu_at bytes) command ∷ []) p ≡ false = ap (λ (n : ℕ). is_programmed n (task_of (upiu_at bytes) command ∷ []) p) is
+        ∙ none_programmed (task_of (upiu_at bytes) command ∷ []) p in
+        subst (λ (b : Bool). MatchBool b (head_block s (task_of (upiu_at bytes) command
+        ∷ []) p ≡ Some (block_at s kept.unit p)) (Contains (candidates s first.unit e p) (block_at s kept.unit p))) (sym none) held
     holds_by p (task ∷ tasks) is held = held
 
 -- data that come change no block before them
@@ -297,7 +321,8 @@ progress_grows : (s : Sizes) (programmed : ℕ) (command : Cdb) (task : Task) (m
 progress_grows s programmed (Write lba n) task more is = let e = whole_grows s task.command task.come more in (is.0, omega (arith, is.1, e))
 progress_grows s programmed _ task more is = is
 
-pub written_grows : (s : Sizes) (command : Cdb) (task : Task) (more : List ℕ) (p : Place) (block : Block) → block_written s task command p ≡ Some block → block_written s (with_data more task) command p ≡ Some block
+pub written_grows : (s : Sizes) (command : Cdb) (task : Task) (more : List ℕ) (p : Place) (block : Block) → block_written s task command p ≡ Some block
+    → block_written s (with_data more task) command p ≡ Some block
 written_grows s (Write lba n) task more p block is = by_tests (is_among task.lun lba n p) (nat_le end (length task.come)) (nat_le end (length (task.come ++ more))) refl refl is
   where
     start : ℕ
@@ -334,7 +359,8 @@ stands_taken s first kept e bytes task others silent kind at =
     host_kept s first (with_tasks (task ∷ others) kept) e bytes (with_data (upiu_at bytes).segment task ∷ others) silent
     (kept_of_kind s kept.on (task ∷ others) bytes DataOut kind silent)
     (progress_grows s kept.programmed task.command task (upiu_at bytes).segment at.progress)
-    (λ p held. holds_grow (Contains (candidates s first.unit e p) (block_at s kept.unit p)) s (is_programmed kept.programmed (task ∷ others) p) task.command task (upiu_at bytes).segment p (block_at s kept.unit p) held)
+    (λ p held. holds_grow (Contains (candidates s first.unit e p) (block_at s kept.unit p)) s (is_programmed kept.programmed (task
+    ∷ others) p) task.command task (upiu_at bytes).segment p (block_at s kept.unit p) held)
     at
 
 -- a reset drops all tasks
@@ -352,6 +378,7 @@ stands_reset s first kept e at =
           (reset_holds p kept.tasks at.progress (at.holds p place));
       at_least = omega (arith, at.at_least, none);
       at_most = omega (arith, at.at_most, within);
+      free = at.free;
       sound = record { so_far = comes s first.unit e Reset at.sound tt; nothing_owed = ap (λ (due : List Event). drop 1 due) at.sound.nothing_owed };
       caused = (at.caused, tt);
     }
@@ -379,7 +406,19 @@ stands_replied s first kept now e bytes v is no_effects goes at =
     let none : effects_of s (on_after e) (tasks_after s e) bytes ≡ [] =
     ap (λ (on : Bool). effects_of s on (tasks_after s e) bytes) at.switch ∙ ap (λ (ts : List Task). effects_of s kept.on ts bytes) at.keeps ∙ no_effects in
     let mid : tasks_after s (e ▹ Host bytes) ≡ kept.tasks = ap (after_reply s (tasks_after s e) (upiu_at bytes)) reply ∙ at.keeps in
-    let goes_on : Goes s first kept now (e ▹ Host bytes) v = record { consistent = goes.consistent; tasks = goes.tasks; switch = goes.switch; progress = goes.progress; holds = goes.holds; at_least = goes.at_least; at_most = goes.at_most } in
+    let goes_on : Goes s first kept now (e ▹ Host bytes) v =
+    record {
+      consistent = goes.consistent;
+      tasks = goes.tasks;
+      switch = goes.switch;
+      progress = goes.progress;
+      holds = goes.holds;
+      at_least = goes.at_least;
+      at_most = goes.at_most;
+      next = goes.next;
+      free = goes.free;
+      erases = goes.erases;
+    } in
     let ended = ends_on s first kept now (e ▹ Host bytes) v goes_on (tasks_after s (e ▹ Host bytes)) mid in
     record {
       keeps = device_changes s (on_after e) (tasks_after s (e ▹ Host bytes)) v goes.consistent ∙ ap (λ (t : List Task). after_sent v v.kind t) mid ∙ goes.tasks;
@@ -388,6 +427,7 @@ stands_replied s first kept now e bytes v is no_effects goes at =
       holds = λ p place. holds_on s first kept now (e ▹ Host bytes) v p goes_on place (tasks_after s (e ▹ Host bytes)) mid (at.holds p place);
       at_least = omega (arith, ended, at.at_least, goes.at_least);
       at_most = omega (arith, at.at_most, goes.at_most);
+      free = rw (goes.free, goes.next, goes.erases) at.free;
       sound = received_answered s first.unit e bytes v at.sound reply none;
       caused = ((at.caused, tt), subst (λ (due : List Event). EventHasCause s ⊥ first.next (e ▹ Host bytes) (Device (upiu_out v)) due) (sym (owes_reply s e bytes v reply)) tt);
     }
@@ -497,13 +537,13 @@ programmed_holds s task lba n k unit allowed q false same more whole is_place he
     subst (λ (b : Bool). MatchBool b (block_written s task (Write lba n) q ≡ Some (block_at s (set unit index block) q)) (Contains allowed (block_at s (set unit index block) q))) (sym (among_next task.lun lba k q same))
     (subst (λ (x : Block). MatchBool (is_among task.lun lba k q) (block_written s task (Write lba n) q ≡ Some x) (Contains allowed x)) (sym stays) held)
 
--- a block of the first task is programmed, under the next number
-pub stands_programmed : (s : Sizes) (first : First) (kept : Kept) (e : History) (task : Task) (others : List Task) (lba n : ℕ)
+-- a block of the first task is programmed on an erased page, under the next number
+pub stands_programmed : (s : Sizes) (first : First) (kept : Kept) (e : History) (task : Task) (others : List Task) (lba n free : ℕ)
     → task.command ≡ Write lba n → kept.programmed < n → kept.programmed < blocks_of_head s (task ∷ [])
-    → length kept.unit ≡ s.luns * s.units
+    → length kept.unit ≡ s.luns * s.units → free + 1 ≡ kept.free
     → Stands s first (with_tasks (task ∷ others) kept) e
-    → Stands s first (programmed_more s (task ∷ others) task lba kept) e
-stands_programmed s first kept e task others lba n is more come whole at =
+    → Stands s first (programmed_more s (task ∷ others) task lba free kept) e
+stands_programmed s first kept e task others lba n free is more come whole fewer at =
     let queue = queue_of s first (with_tasks (task ∷ others) kept) e at in
     let range : is_in_unit (limits_of s) (Write lba n) ≡ true = ap (is_in_unit (limits_of s)) (sym is) ∙ queue.served.0.range in
     let within : lba + n ≤ s.units = leb-true (lba + n) s.units range in
@@ -519,6 +559,7 @@ stands_programmed s first kept e task others lba n is more come whole at =
           (subst (λ (c : Cdb). MatchBool (is_programmed_for k task c q) (block_written s task c q ≡ Some (block_at s kept.unit q)) (Contains (candidates s first.unit e q) (block_at s kept.unit q))) is (at.holds q is_place)));
       at_least = omega (arith, at.at_least);
       at_most = omega (arith, at.at_most);
+      free = omega (arith, at.free);
       sound = at.sound;
       caused = at.caused;
     }
@@ -530,7 +571,7 @@ stands_programmed s first kept e task others lba n is more come whole at =
     place = record { lun = task.lun; lba = lba + kept.programmed }
 
     now : Kept
-    now = programmed_more s (task ∷ others) task lba kept
+    now = programmed_more s (task ∷ others) task lba free kept
 
 -- what a device hands back: each of its blocks is one that is allowed after a reset
 pub handed_back : (s : Sizes) (first : First) (kept : Kept) (e : History) → Stands s first kept e

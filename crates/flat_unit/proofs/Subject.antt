@@ -29,7 +29,7 @@ use Rattle.flat_unit.specs.Query.{query_code, query_reply, query_events, query_e
 use Rattle.flat_unit.specs.Reply.{has_tag, waits_for_data, is_next_piece, not_served, command_refusal, refusal_of_cdb, data_refusal, reply_by_kind, reply_by_fault, fault_rejection, reply_of, effects_of, effects_by_fault, effects_by_kind}
 use Rattle.flat_unit.specs.Sends.{Answer, Data, Ask, Good, Check, Allows, MaySend, upiu_of}
 use Rattle.flat_unit.specs.Sizes.{Sizes, limits_of}
-use Rattle.flat_unit.specs.Sound.{Comes, SoundSoFar, owed, reply_events}
+use Rattle.flat_unit.specs.Sound.{Comes, MayCome, SoundSoFar, owed, reply_events}
 use Rattle.flat_unit.specs.Task.{Task}
 use Rattle.flat_unit.specs.Tasks.{IsAlone, IsQueue}
 use Rattle.flat_unit.proofs.Goes.{no_write_holds}
@@ -71,7 +71,8 @@ out_leaves tasks v = by_kind (upiu_at (upiu_out v)).kind ∙ ap (λ (k : Kind). 
     by_kind _ = refl
 
 -- the first task alone leaves with its tag
-first_leaves : (good : Bool) (task : Task) (others : List Task) (tag : ℕ) → tag ≡ task.tag → IsAlone task others → leaving_all good (filter (has_tag tag) (task ∷ others)) ≡ record { task = task; good = good } ∷ []
+pub first_leaves : (good : Bool) (task : Task) (others : List Task) (tag : ℕ)
+    → tag ≡ task.tag → IsAlone task others → leaving_all good (filter (has_tag tag) (task ∷ others)) ≡ record { task = task; good = good } ∷ []
 first_leaves good task others tag is alone =
     let mine : has_tag tag task ≡ true = ap (λ (t : ℕ). task.tag == t) is ∙ same_tag task.tag in
     let none : filter (has_tag tag) others ≡ [] = none_has tag others (ap (λ (t : ℕ). list_any (has_tag t) others) is ∙ alone) in
@@ -80,10 +81,10 @@ first_leaves good task others tag is alone =
 none_leaves : (good : Bool) (tasks : List Task) (tag : ℕ) → list_any (has_tag tag) tasks ≡ false → leaving_all good (filter (has_tag tag) tasks) ≡ []
 none_leaves good tasks tag none = ap (leaving_all good) (none_has tag tasks none)
 
--- what a reply ends, it ends without GOOD
+-- what a reply ends waited for data, and it ends without GOOD
 abbrev pub EndsBadly : List Task → List Leaving → Type 0
 EndsBadly tasks [] = Unit {0}
-EndsBadly tasks (l ∷ []) = IsFirst l.task tasks × (l.good ≡ false)
+EndsBadly tasks (l ∷ []) = IsFirst l.task tasks × (l.good ≡ false) × (waits_for_data l.task ≡ true)
 EndsBadly tasks (l ∷ _ ∷ _) = ⊥
 
 badly_alone : (tasks : List Task) (ls : List Leaving) → EndsBadly tasks ls → FirstAlone tasks ls
@@ -94,8 +95,9 @@ badly_alone tasks (l ∷ _ ∷ _) badly = badly
 badly_none : (tasks : List Task) (tag : ℕ) → list_any (has_tag tag) tasks ≡ false → EndsBadly tasks (leaving_all false (filter (has_tag tag) tasks))
 badly_none tasks tag none = subst (EndsBadly tasks) (sym (none_leaves false tasks tag none)) tt
 
-badly_first : (task : Task) (others : List Task) (tag : ℕ) → tag ≡ task.tag → IsAlone task others → EndsBadly (task ∷ others) (leaving_all false (filter (has_tag tag) (task ∷ others)))
-badly_first task others tag is alone = subst (EndsBadly (task ∷ others)) (sym (first_leaves false task others tag is alone)) ((others, refl), refl)
+badly_first : (task : Task) (others : List Task) (tag : ℕ)
+    → tag ≡ task.tag → IsAlone task others → waits_for_data task ≡ true → EndsBadly (task ∷ others) (leaving_all false (filter (has_tag tag) (task ∷ others)))
+badly_first task others tag is alone waits = subst (EndsBadly (task ∷ others)) (sym (first_leaves false task others tag is alone)) ((others, refl), refl, waits)
 
 -- what a step sends ends the first task at most
 sent_first : (s : Sizes) (tasks : List Task) (bytes : List ℕ) → IsQueue s tasks → MaySend s tasks bytes → FirstAlone tasks (leaving tasks (Device bytes))
@@ -115,6 +117,12 @@ abbrev pub IsNoData : Kind → Type 0
 IsNoData DataIn = ⊥
 IsNoData _ = Unit {0}
 
+-- nor READY TO TRANSFER
+abbrev pub IsNoTransfer : Kind → Type 0
+IsNoTransfer DataIn = ⊥
+IsNoTransfer ReadyToTransfer = ⊥
+IsNoTransfer _ = Unit {0}
+
 -- a reply is no DATA IN and no READY TO TRANSFER, and it is never GOOD
 abbrev pub IsReply : Upiu → Kind → Type 0
 IsReply v DataIn = ⊥
@@ -122,9 +130,14 @@ IsReply v ReadyToTransfer = ⊥
 IsReply v Response = (v.status == 0) ≡ false
 IsReply v _ = Unit {0}
 
-reply_is_no_data : (v : Upiu) (kind : Kind) → IsReply v kind → IsNoData kind
-reply_is_no_data v DataIn is = is
-reply_is_no_data v _ is = tt
+reply_is_no_transfer : (v : Upiu) (kind : Kind) → IsReply v kind → IsNoTransfer kind
+reply_is_no_transfer v DataIn is = is
+reply_is_no_transfer v ReadyToTransfer is = is
+reply_is_no_transfer v _ is = tt
+
+no_transfer_is_no_data : (kind : Kind) → IsNoTransfer kind → IsNoData kind
+no_transfer_is_no_data DataIn is = is
+no_transfer_is_no_data _ is = tt
 
 -- a reply ends the first task at most
 record Ends (tasks : List Task) (o : Option Upiu) : Type 0 where
@@ -161,8 +174,12 @@ data_ends s [] v queue = only_ends [] _ tt tt
 data_ends s (task ∷ others) v queue =
     either (task ∷ others) (not (waits_for_data task && ((task.lun == v.lun) && (task.tag == v.tag)))) (λ _. only_ends (task ∷ others) _ tt tt) (λ mine.
     either (task ∷ others) (is_next_piece task v) (λ _. none_ends (task ∷ others)) (λ _.
-    only_ends (task ∷ others) _ (badly_first task others v.tag (sym (eqb-true task.tag v.tag (third _ _ _ mine))) queue.apart.0) refl))
+    only_ends (task ∷ others) _ (badly_first task others v.tag (sym (eqb-true task.tag v.tag (third _ _ _ mine))) queue.apart.0 (first _ _ mine)) refl))
   where
+    first : (a b : Bool) → not (a && b) ≡ false → a ≡ true
+    first true b is = refl
+    first false b is = cc
+
     third : (a b c : Bool) → not (a && (b && c)) ≡ false → c ≡ true
     third true true true is = refl
     third true true false is = cc
@@ -199,7 +216,8 @@ reply_ends s on tasks bytes queue = by_fault (wire_fault_of bytes)
     by_fault None = kind_ends (upiu_at bytes).kind s on tasks (upiu_at bytes) queue
 
 -- what a reply is, and what it ends
-pub reply_is : (s : Sizes) (on : Bool) (tasks : List Task) (bytes : List ℕ) (v : Upiu) → IsQueue s tasks → reply_of s on tasks bytes ≡ Some v → EndsBadly tasks (answered v v.kind tasks) × IsReply v v.kind
+pub reply_is : (s : Sizes) (on : Bool) (tasks : List Task) (bytes : List ℕ) (v : Upiu) → IsQueue s tasks → reply_of s on tasks bytes ≡ Some v → EndsBadly tasks (answered v v.kind tasks)
+    × IsReply v v.kind
 reply_is s on tasks bytes v queue is = (reply_ends s on tasks bytes queue).ends v is
 
 -- no event that follows a reply is a UPIU
@@ -257,42 +275,51 @@ owed_requested s (Host bytes ∷ e) = by_reply (reply_of s (on_after e) (tasks_a
     by_reply None = tt
 owed_requested s (_ ∷ e) = fewer_requested (drop 1 (owed s e)) (owed_requested s e)
 
--- an event that no reply owes came of a step
-unowed : (s : Sizes) (u : List Block) (e : History) (bytes : List ℕ) → AreRequested (owed s e) → Comes s u e (owed s e) (Device bytes) → MaySend s (tasks_after s e) bytes
-unowed s u e bytes all comes = by_owed (owed s e) all comes
-  where
-    by_owed : (due : List Event) → AreRequested due → Comes s u e due (Device bytes) → MaySend s (tasks_after s e) bytes
-    by_owed [] all comes = comes.0
-    by_owed (due ∷ rest) all comes = absurd (subst IsRequested (sym comes) all.0)
+-- a UPIU of the device that isn't a reply is owed by nothing
+unowed : (s : Sizes) (u : List Block) (e : History) (bytes : List ℕ) (due : List Event) → AreRequested due → Comes s u e due (Device bytes) → due ≡ []
+unowed s u e bytes [] all comes = refl
+unowed s u e bytes (x ∷ rest) all comes = absurd (subst IsRequested (sym comes) all.0)
 
--- a UPIU of the device came of a step, or it is a reply
+-- what a reply ends, and what it is not
+abbrev pub IsReplied : Sizes → History → List ℕ → Type 0
+IsReplied s e bytes = EndsBadly (tasks_after s e) (leaving (tasks_after s e) (Device bytes)) × IsNoTransfer (upiu_at bytes).kind
+
 replied_first : (s : Sizes) (u : List Block) (e : History) (host bytes : List ℕ) → Comes s u (e ▹ Host host) (owed s (e ▹ Host host)) (Device bytes)
-    → MaySend s (tasks_after s (e ▹ Host host)) bytes ⊎ (EndsBadly (tasks_after s (e ▹ Host host)) (leaving (tasks_after s (e ▹ Host host)) (Device bytes)) × IsNoData (upiu_at bytes).kind)
+    → (owed s (e ▹ Host host) ≡ []) ⊎ IsReplied s (e ▹ Host host) bytes
 replied_first s u e host bytes comes = by_reply (reply_of s (on_after e) (tasks_after s e) host) refl comes
   where
-    tasks : List Task
-    tasks = tasks_after s e
-
     by_reply : (r : Option Upiu) → reply_of s (on_after e) (tasks_after s e) host ≡ r → Comes s u (e ▹ Host host) (reply_events (effects_of s (on_after e) (tasks_after s e) host) r) (Device bytes)
-        → MaySend s (tasks_after s (e ▹ Host host)) bytes ⊎ (EndsBadly (after_reply s (tasks_after s e) (upiu_at host) (reply_of s (on_after e) (tasks_after s e) host)) (leaving (after_reply s (tasks_after s e) (upiu_at host) (reply_of s (on_after e) (tasks_after s e) host)) (Device bytes)) × IsNoData (upiu_at bytes).kind)
+        → (owed s (e ▹ Host host) ≡ []) ⊎ IsReplied s (e ▹ Host host) bytes
     by_reply (Some v) is comes =
         let same : bytes ≡ upiu_out v = cc in
-        let kept : after_reply s (tasks_after s e) (upiu_at host) (reply_of s (on_after e) (tasks_after s e) host) ≡ tasks_after s e = ap (after_reply s (tasks_after s e) (upiu_at host)) is in
+        let kept : tasks_after s (e ▹ Host host) ≡ tasks_after s e = ap (after_reply s (tasks_after s e) (upiu_at host)) is in
         let found = (reply_ends s (on_after e) (tasks_after s e) host (queue_after s e)).ends v is in
         inr (
           subst (λ (ts : List Task). EndsBadly ts (leaving ts (Device bytes))) (sym kept)
               (subst (λ (b : List ℕ). EndsBadly (tasks_after s e) (leaving (tasks_after s e) (Device b))) (sym same)
               (subst (EndsBadly (tasks_after s e)) (sym (out_leaves (tasks_after s e) v))
               found.0)),
-          subst (λ (b : List ℕ). IsNoData (upiu_at b).kind) (sym same) (subst IsNoData (sym (out_kind v)) (reply_is_no_data v v.kind found.1)),
+          subst (λ (b : List ℕ). IsNoTransfer (upiu_at b).kind) (sym same) (subst IsNoTransfer (sym (out_kind v)) (reply_is_no_transfer v v.kind found.1)),
         )
-    by_reply None is comes = inl comes.0
+    by_reply None is comes = inl (ap (reply_events (effects_of s (on_after e) (tasks_after s e) host)) is)
 
+-- nothing owes a UPIU of the device, or it is a reply
+pub unowed_or_replied : (s : Sizes) (u : List Block) (e : History) (bytes : List ℕ) → SoundSoFar s u (e ▹ Device bytes) → (owed s e ≡ []) ⊎ IsReplied s e bytes
+unowed_or_replied s u [] bytes sound = inl refl
+unowed_or_replied s u (Host host ∷ e) bytes sound = replied_first s u e host bytes sound.1
+unowed_or_replied s u (x ∷ e) bytes sound = inl (unowed s u (x ∷ e) bytes (owed s (x ∷ e)) (owed_requested s e) sound.1)
+
+-- what nothing owes may come
+pub may_come : (s : Sizes) (u : List Block) (e : History) (x : Event) → SoundSoFar s u (e ▹ x) → owed s e ≡ [] → MayCome s u e x
+may_come s u e x sound none = subst (λ (due : List Event). Comes s u e due x) none sound.1
+
+-- a UPIU of the device came of a step, or it is a reply
 pub sent_or_replied : (s : Sizes) (u : List Block) (e : History) (bytes : List ℕ) → SoundSoFar s u (e ▹ Device bytes)
     → MaySend s (tasks_after s e) bytes ⊎ (EndsBadly (tasks_after s e) (leaving (tasks_after s e) (Device bytes)) × IsNoData (upiu_at bytes).kind)
-sent_or_replied s u [] bytes sound = inl sound.1.0
-sent_or_replied s u (Host host ∷ e) bytes sound = replied_first s u e host bytes sound.1
-sent_or_replied s u (x ∷ e) bytes sound = inl (unowed s u (x ∷ e) bytes (owed_requested s e) sound.1)
+sent_or_replied s u e bytes sound = ⊎_elim
+    (λ (none : owed s e ≡ []). inl (may_come s u e (Device bytes) sound none).0)
+    (λ (replied : IsReplied s e bytes). inr (replied.0, no_transfer_is_no_data (upiu_at bytes).kind replied.1))
+    (unowed_or_replied s u e bytes sound)
 
 -- the first task alone ends
 pub first_ends : (s : Sizes) (u : List Block) (e : History) (bytes : List ℕ) → SoundSoFar s u (e ▹ Device bytes) → FirstAlone (tasks_after s e) (leaving (tasks_after s e) (Device bytes))

@@ -67,7 +67,8 @@ if_same_command : (b : Bool) (f : Task → Task) (t : Task) → (f t).command �
 if_same_command true f t is = is
 if_same_command false f t is = refl
 
-head_with_tag : (tag : ℕ) (f : Task → Task) (tasks : List Task) → ((t : Task) → (f t).command ≡ t.command) → AllByRecursion BringsNone tasks → AllByRecursion BringsNone (change_head_with_tag tag f tasks)
+head_with_tag : (tag : ℕ) (f : Task → Task) (tasks : List Task) → ((t : Task) → (f t).command ≡ t.command) → AllByRecursion BringsNone tasks
+    → AllByRecursion BringsNone (change_head_with_tag tag f tasks)
 head_with_tag tag f tasks same all = head_changed (λ (t : Task). if has_tag tag t then f t else t) tasks (λ t. if_same_command (has_tag tag t) f t (same t)) all
 
 tasks_sent : (kind : Kind) (v : Upiu) (tasks : List Task) → AllByRecursion BringsNone tasks → AllByRecursion BringsNone (after_sent v kind tasks)

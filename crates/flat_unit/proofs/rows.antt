@@ -1,5 +1,6 @@
 pub mod Bytes
 pub mod Reading
+pub mod Ending
 pub mod Writing
 pub mod Refusing
 pub mod Requests

@@ -62,6 +62,7 @@ failures [] = 0
 failures (Failed op ∷ e) = failures e + 1
 failures (_ ∷ e) = failures e
 
--- the failures are at most the rise of a count of faults, unless the count stands at its last value
-abbrev pub FailuresWithin : ℕ → ℕ → History → Type 0
-FailuresWithin before now e = min (before + failures e) (2 ^ 64 - 1) ≤ now
+-- the failures are exactly the rise of a count of faults, unless the count stands at its last value
+pub record FailuresAre (before now : ℕ) (e : History) : Type 0 where
+  pub least : min (before + failures e) (2 ^ 64 - 1) ≤ now
+  pub most : now ≤ before + failures e

@@ -1,5 +1,5 @@
 -- The commands that a device serves, and the bytes that each moves (SBC; the HPB commands are this project's own).
-use Rattle.std.specs.Prelude.{ℕ, ◌+◌, ◌*◌, Bool, true, false, List, Result, Err, if◌then◌else◌, ◌==◌, min, slice_index}
+use Rattle.std.specs.Prelude.{◌≡◌, ℕ, ◌+◌, ◌*◌, Bool, true, false, List, Result, Err, if◌then◌else◌, ◌==◌, min, slice_index}
 use Rattle.std.specs.List.{list_any}
 use Rattle.hpb_cdb.specs.declared.cdb.Cdb.{Cdb}
 use Rattle.hpb_cdb.specs.declared.cdb.Cdb.TheVariants.{Read, Write, Capacity, HpbRead, ReadBuffer, Prefetch, InactOne, InactAll}
@@ -22,6 +22,17 @@ is_hpb (Prefetch lba id len) = true
 is_hpb (InactOne region) = true
 is_hpb InactAll = true
 is_hpb _ = false
+
+abbrev pub is_read : Cdb → Bool
+is_read (Read lba n) = true
+is_read (HpbRead lba entry n id) = true
+is_read _ = false
+
+-- the command reads so many blocks from this one on
+abbrev pub ReadsBlocks : Cdb → ℕ → ℕ → Type 0
+ReadsBlocks (Read lba n) first count = (lba ≡ first) × (n ≡ count)
+ReadsBlocks (HpbRead lba entry n id) first count = (lba ≡ first) × (n ≡ count)
+ReadsBlocks _ first count = ⊥
 
 abbrev pub is_write : Cdb → Bool
 is_write (Write lba n) = true

@@ -82,4 +82,5 @@ TellsEntry s pages had e p None = Unit {0}
 -- each entry that READ BUFFER lists is one of a page, or none
 abbrev pub Told : Sizes → ℕ → (Place → Bool) → History → Type 0
 Told s pages had [] = Unit {0}
-Told s pages had (x ∷ e) = Told s pages had e × ((p : Place) → TellsEntry s pages had e p (listed s (tasks_after s e) x p))
+Told s pages had (x ∷ e) = Told s pages had e
+    × ((p : Place) → TellsEntry s pages had e p (listed s (tasks_after s e) x p))

@@ -1,5 +1,5 @@
 -- Words for what holds of all histories (this project's own).
-use Rattle.std.specs.Prelude.{false, true, ◌⊎◌, ◌≡◌, ◌<◌, ◌^◌, ℕ, zero, suc, ◌+◌, Bool, List, [], ◌∷◌, length, map, ◌*◌, Option, Some, None, if◌then◌else◌}
+use Rattle.std.specs.Prelude.{false, true, ◌⊎◌, ◌≡◌, ◌<◌, ◌≤◌, ◌^◌, ℕ, zero, suc, ◌+◌, Bool, List, [], ◌∷◌, length, map, ◌*◌, Option, Some, None, if◌then◌else◌}
 use Rattle.std.specs.List.{AllByRecursion}
 use Rattle.flash_pages.specs.Place.{Place}
 use Rattle.hex.specs.Hex.{IsBytes}
@@ -36,6 +36,16 @@ HasRoom _ = Unit {0}
 -- those of each event
 abbrev pub HaveRoom : History → Type 0
 HaveRoom e = AllByRecursion HasRoom e
+
+-- the bytes of an event are at most as many as a UPIU of its side has
+abbrev pub IsShort : Event → Type 0
+IsShort (Host bytes) = length bytes ≤ 65568
+IsShort (Device bytes) = length bytes ≤ 4128
+IsShort _ = Unit {0}
+
+-- those of each event
+abbrev pub AreShort : History → Type 0
+AreShort e = AllByRecursion IsShort e
 
 -- what the first task has shown, the newest first
 abbrev pub shown_next : Option Shown → Bool → List Shown → List Shown

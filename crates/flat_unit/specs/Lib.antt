@@ -15,11 +15,14 @@ pub mod Sound
 pub mod Tasks
 pub mod Writes
 pub mod Causes
+pub mod Harmless
 pub mod Stands
 pub mod Lists
 pub mod Hints
+pub mod Hintless
 pub mod Entries
 pub mod Counts
 pub mod Replays
 pub mod Pages
+pub mod Reads
 pub mod Laws

@@ -31,7 +31,8 @@ without_list lun id lists = filter (λ (l : Fetched). not (is_list lun id l)) li
 abbrev pub lists_left_by : List Fetched → Leaving → Cdb → List Fetched
 lists_left_by lists l (Prefetch lba id len) =
     if l.good
-    then record { lun = l.task.lun; id = id; lba = lba; bytes = l.task.come } ∷ without_list l.task.lun id lists else lists
+    then record { lun = l.task.lun; id = id; lba = lba; bytes = l.task.come }
+    ∷ without_list l.task.lun id lists else lists
 lists_left_by lists l (HpbRead lba entry n id) = without_list l.task.lun id lists
 lists_left_by lists l _ = lists
 

@@ -70,7 +70,8 @@ is_due s p = not (at_rest (tasks_at s p)) && nat_le s.pages p.quiet
 -- a read's next block has an entry
 abbrev pub has_entry : Sizes → History → List Task → Bool
 has_entry s e [] = false
-has_entry s e (task ∷ others) = nat_lt task.sent (bytes_given s task.command) && is_some (next_entry s e (task ∷ others))
+has_entry s e (task ∷ others) = nat_lt task.sent (bytes_given s task.command) && is_some (next_entry s e (task
+    ∷ others))
 
 -- a write has asked for data
 abbrev pub has_asked : List Task → Bool
@@ -133,7 +134,10 @@ keeps_write tasks = list_any (λ (task : Task). is_write task.command) tasks
 
 -- the runs at a line without input: those that go on, and one that begins here
 abbrev pub with_run : Sizes → Progress → Progress
-with_run s p = record p { runs = record { lacks = enough s (tasks_at s p); has_write = keeps_write (tasks_at s p) } ∷ p.runs }
+with_run s p = record p {
+  runs = record { lacks = enough s (tasks_at s p); has_write = keeps_write (tasks_at s p) }
+      ∷ p.runs;
+}
 
 -- a run has made n more calls
 abbrev pub lacks_less : ℕ → Progress → Progress
@@ -201,12 +205,6 @@ LineTo s (Collect n) p now = Collects n (with_run s p) now
 LineTo s Drain p now = Drains s (without_runs p) now
 LineTo s ResetLine p now = now ≡ reset p
 LineTo s Blank p now = now ≡ with_run s p
-
--- what a line may lead to that was cut after one of its calls
-abbrev pub CutLineTo : Sizes → Line → Progress → Progress → Type 0
-CutLineTo s (Steps n) p now = (k : ℕ) × (k ≤ n) × StepsTo s k (with_run s p) now
-CutLineTo s Drain p now = (k : ℕ) × (k ≤ enough s (tasks_at s p)) × StepsTo s k (without_runs p) now
-CutLineTo s line p now = LineTo s line p now
 
 -- a trace leads from one moment to another
 abbrev pub Replays : Sizes → List Line → Progress → Progress → Type 0

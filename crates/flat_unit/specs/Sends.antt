@@ -52,9 +52,11 @@ MayEndWith _ sense = sense ≡ chip_failed
 abbrev pub Allows : Sizes → Task → Answer → Type 0
 Allows s task (Data bytes) = (task.sent < bytes_given s task.command) × IsPiece s task task.command bytes
 Allows s task (Ask count) =
-    (task.asked ≡ length task.come) × (task.asked < bytes_taken s task.command) × (count ≡ asked_at_once s task task.command)
+    (task.asked ≡ length task.come) × (task.asked < bytes_taken s task.command)
+    × (count ≡ asked_at_once s task task.command)
 Allows s task (Good segment) =
-    (task.sent ≡ bytes_given s task.command) × (length task.come ≡ bytes_taken s task.command) × (length segment < 2 ^ 16)
+    (task.sent ≡ bytes_given s task.command) × (length task.come ≡ bytes_taken s task.command)
+    × (length segment < 2 ^ 16)
 Allows s task (Check sense) = MayEndWith task.command sense
 
 -- the first of these tasks allows these bytes

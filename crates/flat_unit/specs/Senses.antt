@@ -31,7 +31,7 @@ bad_field = sense 0x5 0x24
 abbrev pub no_unit : FixedSense
 no_unit = sense 0x5 0x25
 
--- DATA PROTECT: the chip has no more sequence numbers
+-- DATA PROTECT: the chip has no erased page, or no sequence number, for a block any more
 abbrev pub no_number : FixedSense
 no_number = sense 0x7 0x27
 

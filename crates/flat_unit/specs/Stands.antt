@@ -1,6 +1,6 @@
 -- A device stands at a history: its tasks are those that the history keeps, each block of its unit is one that the flat
 -- unit allows, and the history is sound and has its causes (this project's own).
-use Rattle.std.specs.Prelude.{◌≡◌, ◌≤◌, ℕ, ◌+◌, Bool, false, List, [], ◌∷◌, Contains, MatchBool, if◌then◌else◌, Option, Some, None}
+use Rattle.std.specs.Prelude.{◌≡◌, ◌≤◌, ℕ, ◌+◌, ◌*◌, Bool, false, List, [], ◌∷◌, Contains, MatchBool, if◌then◌else◌, Option, Some, None}
 use Rattle.flash_pages.specs.Place.{Place, IsPlace}
 use Rattle.hpb_cdb.specs.declared.cdb.Cdb.{Cdb}
 use Rattle.hpb_cdb.specs.declared.cdb.Cdb.TheVariants.{Write}
@@ -17,18 +17,21 @@ use Rattle.flat_unit.specs.Task.{Task}
 use Rattle.flat_unit.specs.Writes.{moves, blocks_come, blocks_good, blocks_of_head}
 
 -- what a device keeps: its tasks, whether HPB is on, the unit of its chip, how many blocks of its first task it has
--- programmed, and the next sequence number of its chip
+-- programmed, the next sequence number of its chip and its erased pages, and how many erase blocks it has erased
 pub record Kept : Type 0 where
   pub tasks : List Task
   pub on : Bool
   pub unit : List Block
   pub programmed : ℕ
   pub next : ℕ
+  pub free : ℕ
+  pub erases : ℕ
 
--- the chip that it began with: its unit, and its next sequence number
+-- the chip that it began with: its unit, its next sequence number, and its erased pages
 pub record First : Type 0 where
   pub unit : List Block
   pub next : ℕ
+  pub free : ℕ
 
 -- the place is one of the blocks of a write that are programmed
 abbrev pub is_programmed_for : ℕ → Task → Cdb → Place → Bool
@@ -65,7 +68,8 @@ HasProgress s programmed (task ∷ _) = IsProgress s programmed task task.comman
 
 -- Its next sequence number is at least the first one with a number for each page that was moved, each block that was
 -- answered GOOD and each that is programmed. It is at most that with the whole blocks that came, but for those that the
--- first task has and that aren't programmed.
+-- first task has and that aren't programmed. Its erased pages are those of the first chip and of each erase block that was
+-- erased, less one for each sequence number that was used.
 pub record Stands (s : Sizes) (first : First) (kept : Kept) (e : History) : Type 0 where
   pub keeps : tasks_after s e ≡ kept.tasks
   pub switch : on_after e ≡ kept.on
@@ -73,6 +77,7 @@ pub record Stands (s : Sizes) (first : First) (kept : Kept) (e : History) : Type
   pub holds : Holds s kept first.unit e
   pub at_least : first.next + moves e + blocks_good s e + kept.programmed ≤ kept.next
   pub at_most : kept.next + blocks_of_head s kept.tasks ≤ first.next + moves e + blocks_come s e + kept.programmed
+  pub free : kept.free + kept.next ≡ first.free + first.next + s.erase_block * kept.erases
   pub sound : Sound s first.unit e
   pub caused : Caused s ⊥ first.next e
 
@@ -91,6 +96,7 @@ pub record StandsButSound (s : Sizes) (first : First) (kept : Kept) (e : History
   pub holds : Holds s kept first.unit e
   pub at_least : first.next + moves e + blocks_good s e + kept.programmed ≤ kept.next
   pub at_most : kept.next + blocks_of_head s kept.tasks ≤ first.next + moves e + blocks_come s e + kept.programmed
+  pub free : kept.free + kept.next ≡ first.free + first.next + s.erase_block * kept.erases
   pub caused : Caused s ⊥ first.next e
 
 -- the task with a tag goes, and what was programmed for it is forgotten

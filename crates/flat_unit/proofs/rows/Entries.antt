@@ -192,7 +192,8 @@ number_told p (suc k) =
     subst (λ (b : Bool). TellsEntry small 32 (λ _. false) ([] ▹ Host (read_buffer 7 2 1 16)) p (if nat_le 0 (8 * suc k) && b then Some (big_number 8 (slice_range all_none (8 * suc k - 0) (8 * suc k - 0 + 8))) else None)) (sym outside)
     (none_there (nat_le 0 (8 * suc k)))
   where
-    none_there : (b : Bool) → TellsEntry small 32 (λ _. false) ([] ▹ Host (read_buffer 7 2 1 16)) p (if b && false then Some (big_number 8 (slice_range all_none (8 * suc k - 0) (8 * suc k - 0 + 8))) else None)
+    none_there : (b : Bool)
+        → TellsEntry small 32 (λ _. false) ([] ▹ Host (read_buffer 7 2 1 16)) p (if b && false then Some (big_number 8 (slice_range all_none (8 * suc k - 0) (8 * suc k - 0 + 8))) else None)
     none_there true = tt
     none_there false = tt
 

@@ -1,0 +1,5 @@
+use Rattle.flat_unit.proofs.Reading.{reads_end_well}
+use Rattle.flat_unit.proofs.laws.reads_end_good.Goals as goal
+
+pub returns : goal.returns
+returns c = reads_end_well

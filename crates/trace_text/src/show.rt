@@ -2,8 +2,6 @@ ghost use Rattle.std.specs.Prelude.{◌≡◌, ◌+◌, ◌/◌, ◌≤◌, ◌+
 ghost use Rattle.hex.specs.Hex.{decode_of, encode_lower};
 ghost use Rattle.std.specs.Int.{w64, to_be_bytes};
 ghost use Rattle.upiu_wire.specs.Upiu.{upiu_at};
-ghost use Rattle.trace_text.specs.declared.show.TheConstants.{SHOWN_BYTES, TEXT_BYTES};
-ghost use Rattle.trace_text.specs.declared.window.TheConstants.{LINE_BYTES};
 ghost use Rattle.trace_text.specs.Written.{Puts};
 ghost use Rattle.trace_text.specs.Shown.{named, byte_text, digit_text, command_text, cdb_text, pair_text, pairs_text, regions_text, sense_of, fixed_text, hint_text, sense_text, kind_name, moved_text, rest_text, upiu_text, shown_upiu, bytes_text, marked_digits, decoded, is_response, shown_line, any_limits};
 ghost use Rattle.upiu_wire.specs.Kind.{kind_of};
@@ -31,7 +29,7 @@ type Text = ArrayVec<u8, TEXT_BYTES>;
 
 /// Adds a text.
 fn push(part: &[u8], text: &mut Text)
-    requires { length text.old.items + length part.now ≤ TEXT_BYTES }
+    requires { length text.old.items + length part.now ≤ 512 }
     ensures { text.new.items ≡ text.old.items ++ part.now }
 {
     text.try_extend_from_slice(part).unwrap();
@@ -39,7 +37,7 @@ fn push(part: &[u8], text: &mut Text)
 
 /// Adds a number, of at most 20 digits.
 fn push_number(number: u64, text: &mut Text)
-    requires { length text.old.items + 20 ≤ TEXT_BYTES }
+    requires { length text.old.items + 20 ≤ 512 }
     ensures text { text.new.items ≡ text.old.items ++ decimal number }
     ensures bound { length text.new.items ≤ length text.old.items + 20 }
 {
@@ -49,7 +47,7 @@ fn push_number(number: u64, text: &mut Text)
 
 /// Adds a name and a number behind it.
 fn push_named(name: &[u8], number: u64, text: &mut Text)
-    requires { length text.old.items + length name.now + 20 ≤ TEXT_BYTES }
+    requires { length text.old.items + length name.now + 20 ≤ 512 }
     ensures text { text.new.items ≡ text.old.items ++ named name.now number }
     ensures bound { length text.new.items ≤ length text.old.items + length name.now + 20 }
 {
@@ -59,7 +57,7 @@ fn push_named(name: &[u8], number: u64, text: &mut Text)
 
 /// Adds a byte as two hex digits.
 fn push_byte(byte: u8, text: &mut Text)
-    requires { length text.old.items + 2 ≤ TEXT_BYTES }
+    requires { length text.old.items + 2 ≤ 512 }
     ensures text { text.new.items ≡ text.old.items ++ byte_text byte }
     ensures bound { length text.new.items ≡ length text.old.items + 2 }
 {
@@ -70,7 +68,7 @@ fn push_byte(byte: u8, text: &mut Text)
 
 /// Adds a number below 16 as one hex digit.
 fn push_digit(number: u8, text: &mut Text)
-    requires { length text.old.items + 1 ≤ TEXT_BYTES }
+    requires { length text.old.items + 1 ≤ 512 }
     ensures text { text.new.items ≡ text.old.items ++ digit_text number }
     ensures bound { length text.new.items ≡ length text.old.items + 1 }
 {
@@ -81,7 +79,7 @@ fn push_digit(number: u8, text: &mut Text)
 
 /// Adds an entry as 16 hex digits.
 fn push_entry(entry: u64, text: &mut Text)
-    requires { length text.old.items + 16 ≤ TEXT_BYTES }
+    requires { length text.old.items + 16 ≤ 512 }
     ensures text { text.new.items ≡ text.old.items ++ encode_lower (to_be_bytes w64 entry) }
     ensures bound { length text.new.items ≡ length text.old.items + 16 }
 {
@@ -92,7 +90,7 @@ fn push_entry(entry: u64, text: &mut Text)
 
 /// Adds a name, a first block and a number of blocks.
 fn push_blocks(name: &[u8], lba: u32, n: u16, text: &mut Text)
-    requires room { length text.old.items + 60 ≤ TEXT_BYTES }
+    requires room { length text.old.items + 60 ≤ 512 }
     requires name { length name.now ≤ 16 }
     ensures text { text.new.items ≡ text.old.items ++ (named name.now lba ++ named (codes " n=") n) }
     ensures bound { length text.new.items ≤ length text.old.items + 60 }
@@ -103,7 +101,7 @@ fn push_blocks(name: &[u8], lba: u32, n: u16, text: &mut Text)
 
 /// Adds an HPB READ.
 fn push_hpb_read(lba: u32, entry: u64, n: u8, id: u8, text: &mut Text)
-    requires { length text.old.items + 120 ≤ TEXT_BYTES }
+    requires { length text.old.items + 120 ≤ 512 }
     ensures text { text.new.items ≡ text.old.items ++ command_text (Cdb.HpbRead lba entry n id) }
     ensures bound { length text.new.items ≤ length text.old.items + 120 }
 {
@@ -116,7 +114,7 @@ fn push_hpb_read(lba: u32, entry: u64, n: u8, id: u8, text: &mut Text)
 
 /// Adds a command that brings a list of entries.
 fn push_prefetch(lba: u32, id: u8, len: u16, text: &mut Text)
-    requires { length text.old.items + 120 ≤ TEXT_BYTES }
+    requires { length text.old.items + 120 ≤ 512 }
     ensures text { text.new.items ≡ text.old.items ++ command_text (Cdb.Prefetch lba id len) }
     ensures bound { length text.new.items ≤ length text.old.items + 120 }
 {
@@ -127,7 +125,7 @@ fn push_prefetch(lba: u32, id: u8, len: u16, text: &mut Text)
 
 /// Adds a command that makes a region inactive.
 fn push_inactive(region: u16, text: &mut Text)
-    requires { length text.old.items + 120 ≤ TEXT_BYTES }
+    requires { length text.old.items + 120 ≤ 512 }
     ensures text { text.new.items ≡ text.old.items ++ command_text (Cdb.InactOne region) }
     ensures bound { length text.new.items ≤ length text.old.items + 120 }
 {
@@ -136,7 +134,7 @@ fn push_inactive(region: u16, text: &mut Text)
 
 /// Adds a command.
 fn push_command(command: Cdb, text: &mut Text)
-    requires { length text.old.items + 120 ≤ TEXT_BYTES }
+    requires { length text.old.items + 120 ≤ 512 }
     ensures text { text.new.items ≡ text.old.items ++ command_text command }
     ensures bound { length text.new.items ≤ length text.old.items + 120 }
 {
@@ -161,7 +159,7 @@ fn push_command(command: Cdb, text: &mut Text)
 /// Adds what a CDB says.
 fn push_cdb(cdb: &[u8], text: &mut Text)
     requires bytes { length cdb.now ≡ 16 }
-    requires room { length text.old.items + 120 ≤ TEXT_BYTES }
+    requires room { length text.old.items + 120 ≤ 512 }
     ensures text { text.new.items ≡ text.old.items ++ cdb_text (cdb_of any_limits cdb.now) }
     ensures bound { length text.new.items ≤ length text.old.items + 120 }
 {
@@ -174,7 +172,7 @@ fn push_cdb(cdb: &[u8], text: &mut Text)
 
 /// Adds a subregion.
 fn push_pair(pair: (u16, u16), text: &mut Text)
-    requires { length text.old.items + 41 ≤ TEXT_BYTES }
+    requires { length text.old.items + 41 ≤ 512 }
     ensures text { text.new.items ≡ text.old.items ++ pair_text pair }
     ensures bound { length text.new.items ≤ length text.old.items + 41 }
 {
@@ -186,7 +184,7 @@ fn push_pair(pair: (u16, u16), text: &mut Text)
 /// Adds up to two subregions.
 fn push_pairs(pairs: &[(u16, u16)], text: &mut Text)
     requires count { length pairs.now ≤ 2 }
-    requires room { length text.old.items + 83 ≤ TEXT_BYTES }
+    requires room { length text.old.items + 83 ≤ 512 }
     ensures text { text.new.items ≡ text.old.items ++ pairs_text pairs.now }
     ensures bound { length text.new.items ≤ length text.old.items + 83 }
 {
@@ -204,7 +202,7 @@ fn push_pairs(pairs: &[(u16, u16)], text: &mut Text)
 /// Adds up to two regions.
 fn push_regions(regions: &[u16], text: &mut Text)
     requires count { length regions.now ≤ 2 }
-    requires room { length text.old.items + 41 ≤ TEXT_BYTES }
+    requires room { length text.old.items + 41 ≤ 512 }
     ensures text { text.new.items ≡ text.old.items ++ regions_text regions.now }
     ensures bound { length text.new.items ≤ length text.old.items + 41 }
 {
@@ -221,7 +219,7 @@ fn push_regions(regions: &[u16], text: &mut Text)
 
 /// Adds fixed sense.
 fn push_fixed(sense: FixedSense, text: &mut Text)
-    requires { length text.old.items + 14 ≤ TEXT_BYTES }
+    requires { length text.old.items + 14 ≤ 512 }
     ensures text { text.new.items ≡ text.old.items ++ fixed_text sense }
     ensures bound { length text.new.items ≤ length text.old.items + 14 }
 {
@@ -235,7 +233,7 @@ fn push_fixed(sense: FixedSense, text: &mut Text)
 
 /// Adds a hint.
 fn push_hint(hint: &Hint, text: &mut Text)
-    requires { length text.old.items + 200 ≤ TEXT_BYTES }
+    requires { length text.old.items + 200 ≤ 512 }
     ensures text { text.new.items ≡ text.old.items ++ hint_text hint.now }
     ensures bound { length text.new.items ≤ length text.old.items + 200 }
 {
@@ -256,7 +254,7 @@ fn parse_sense(segment: &[u8]) -> Option<Sense>
 
 /// Adds what the segment of a RESPONSE says.
 fn push_sense(segment: &[u8], text: &mut Text)
-    requires { length text.old.items + 200 ≤ TEXT_BYTES }
+    requires { length text.old.items + 200 ≤ 512 }
     ensures text { text.new.items ≡ text.old.items ++ sense_text (sense_of segment.now) }
     ensures bound { length text.new.items ≤ length text.old.items + 200 }
 {
@@ -271,7 +269,7 @@ fn push_sense(segment: &[u8], text: &mut Text)
 
 /// Adds the name of a kind.
 fn push_kind(kind: Kind, text: &mut Text)
-    requires { length text.old.items + 14 ≤ TEXT_BYTES }
+    requires { length text.old.items + 14 ≤ 512 }
     ensures text { text.new.items ≡ text.old.items ++ kind_name kind }
     ensures bound { length text.new.items ≤ length text.old.items + 14 }
 {
@@ -293,7 +291,7 @@ fn push_kind(kind: Kind, text: &mut Text)
 
 /// Adds which bytes a UPIU is about.
 fn push_moved(view: &UpiuView, text: &mut Text)
-    requires { length text.old.items + 60 ≤ TEXT_BYTES }
+    requires { length text.old.items + 60 ≤ 512 }
     ensures text { text.new.items ≡ text.old.items ++ moved_text (upiu_at view.now) }
     ensures bound { length text.new.items ≤ length text.old.items + 60 }
 {
@@ -303,7 +301,7 @@ fn push_moved(view: &UpiuView, text: &mut Text)
 
 /// Adds what a RESPONSE says behind its tag.
 fn push_response(view: &UpiuView, text: &mut Text)
-    requires { length text.old.items + 240 ≤ TEXT_BYTES }
+    requires { length text.old.items + 240 ≤ 512 }
     ensures text { text.new.items ≡ text.old.items ++ rest_text Kind.Response (upiu_at view.now) }
     ensures bound { length text.new.items ≤ length text.old.items + 240 }
 {
@@ -315,7 +313,7 @@ fn push_response(view: &UpiuView, text: &mut Text)
 
 /// Adds what a UPIU says behind its tag.
 fn push_rest(view: &UpiuView, text: &mut Text)
-    requires { length text.old.items + 240 ≤ TEXT_BYTES }
+    requires { length text.old.items + 240 ≤ 512 }
     ensures text { text.new.items ≡ text.old.items ++ rest_text (upiu_at view.now).kind (upiu_at view.now) }
     ensures bound { length text.new.items ≤ length text.old.items + 240 }
 {
@@ -333,7 +331,7 @@ fn push_rest(view: &UpiuView, text: &mut Text)
 
 /// Adds what a UPIU says.
 fn push_view(view: &UpiuView, text: &mut Text)
-    requires { length text.old.items + 320 ≤ TEXT_BYTES }
+    requires { length text.old.items + 320 ≤ 512 }
     ensures text { text.new.items ≡ text.old.items ++ upiu_text (upiu_at view.now) }
     ensures bound { length text.new.items ≤ length text.old.items + 320 }
 {
@@ -345,7 +343,7 @@ fn push_view(view: &UpiuView, text: &mut Text)
 
 /// Adds what bytes say, or why they are no UPIU.
 fn push_bytes(bytes: &[u8], text: &mut Text)
-    requires { length text.old.items + 320 ≤ TEXT_BYTES }
+    requires { length text.old.items + 320 ≤ 512 }
     ensures text { text.new.items ≡ text.old.items ++ bytes_text (wire_fault_of bytes.now) bytes.now }
     ensures bound { length text.new.items ≤ length text.old.items + 320 }
 {
@@ -357,9 +355,9 @@ fn push_bytes(bytes: &[u8], text: &mut Text)
 
 /// Writes the line that is shown for the bytes of a UPIU to the front of `out`, and answers how many bytes it has.
 fn put_shown_upiu(bytes: &[u8], out: &mut [u8]) -> usize
-    requires { SHOWN_BYTES ≤ length out.old }
+    requires { 131201 ≤ length out.old }
     ensures written { Puts out.old out.new 0 result (shown_upiu bytes.now) }
-    ensures bound { result ≤ TEXT_BYTES }
+    ensures bound { result ≤ 512 }
 {
     let mut text = Text::new();
     push_bytes(bytes, &mut text);
@@ -439,12 +437,12 @@ fn read_shown(digits: &[u8], room: &mut [u8]) -> Option<usize>
 /// whose hex digits follow, and there is nothing where they are odd in number or one is no hex digit. Any other line
 /// is copied. The room is overwritten.
 pub fn put_shown(line: &[u8], room: &mut [u8], out: &mut [u8]) -> Option<usize>
-    requires line { length line.now ≤ LINE_BYTES }
+    requires line { length line.now ≤ 131200 }
     requires room { 65600 ≤ length room.old }
-    requires out { SHOWN_BYTES ≤ length out.old }
+    requires out { 131201 ≤ length out.old }
     ensures count { result ≡ option_map length (shown_line line.now) }
     ensures written { IfSome (shown_line line.now) (λ text. out.new ≡ text ++ drop (length text) out.old) }
-    ensures bound { IfSome result (λ count. count ≤ SHOWN_BYTES) }
+    ensures bound { IfSome result (λ count. count ≤ 131201) }
 {
     match marked_digits(line) {
         None => Some(put_line(line, out)),

@@ -1,11 +1,11 @@
 //! Lines of a trace, lines that are written, and lines that are read over cuts and faults.
-ghost use Rattle.std.specs.Prelude.{◌≤◌, length};
+ghost use Rattle.std.specs.Prelude.{◌≤◌, None, length};
 ghost use Rattle.flat_unit.specs.Print.{line_of};
 
 use super::*;
 use flash_pages::ChipOp;
 use flat_unit::{Bytes, Event};
-use hpb_outside::MemSource;
+use hpb_outside::{Failed, MemSource, Source};
 use std::alloc::Global;
 use std::process::Abort;
 use std::test::Fail;
@@ -128,16 +128,62 @@ fn read_that_fails(rt: HostRuntime) -> Result<(), Fail> {
     Ok(())
 }
 
+/// Gives one byte a call, and counts its calls, also those after its end.
+#[derive(Drop)]
+struct ByteSource {
+    bytes: Vec<u8>,
+    given: usize,
+    calls: u64,
+}
+
+impl Source for ByteSource {
+    ghost left = { λ source. None };
+
+    ghost faults = { λ source. 0 };
+
+    fn read(&mut self, buf: &mut [u8]) -> Result<usize, Failed> {
+        self.calls = self.calls.saturating_add(1);
+        match self.bytes.get(self.given) {
+            Some(byte) if !buf.is_empty() => {
+                buf[0] = *byte;
+                self.given += 1;
+                Ok(1)
+            }
+            _ => Ok(0),
+        }
+    }
+}
+
 #[test]
-fn line_that_is_too_long(rt: HostRuntime) -> Result<(), Fail> {
-    let bytes = vec![in rt.alloc(); b'#'; 131_201]?;
-    let mut source = MemSource::new(bytes, Vec::new(rt.alloc()), Vec::new(rt.alloc()));
+fn lines_by_single_bytes(rt: HostRuntime) -> Result<(), Fail> {
+    let mut bytes = vec![in rt.alloc(); b'#'; 131_140]?;
+    bytes[131_138] = b'\n';
+    let mut source = ByteSource {
+        bytes,
+        given: 0,
+        calls: 0,
+    };
     let mut reader = LineReader::new(rt.alloc())?;
-    assert_eq!(rt;
-        reader.next_line(&mut source).err(),
-        Some(LineFault::TooLong)
-    );
-    assert!(rt; reader.has_more(&mut source)?);
+    let line = reader.next_line(&mut source)?.ok_or("no line")?;
+    assert_eq!(rt; line.len(), 131_138);
+    assert_eq!(rt; source.calls, 131_139);
+    let last = reader.next_line(&mut source)?.ok_or("no line")?;
+    assert_eq!(rt; last, b"#".as_slice());
+    assert_eq!(rt; source.calls, 131_141);
+    assert!(rt; !reader.has_more(&mut source)?);
+    assert!(rt; reader.next_line(&mut source)?.is_none());
+    assert_eq!(rt; source.calls, 131_141);
+    Ok(())
+}
+
+#[test]
+fn lines_of_the_limit(rt: HostRuntime) -> Result<(), Fail> {
+    for (count, fault) in [(131_200, None), (131_201, Some(LineFault::TooLong))] {
+        let bytes = vec![in rt.alloc(); b'#'; count]?;
+        let mut source = MemSource::new(bytes, Vec::new(rt.alloc()), Vec::new(rt.alloc()));
+        let mut reader = LineReader::new(rt.alloc())?;
+        assert_eq!(rt; reader.next_line(&mut source).err(), fault, "{count}");
+    }
     Ok(())
 }
 

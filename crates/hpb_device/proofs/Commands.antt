@@ -1,9 +1,14 @@
 -- What a task is whose command is known.
-use Rattle.std.specs.Prelude.{if◌then◌else◌}
+use Rattle.std.specs.Prelude.{IsSome, is_some, if◌then◌else◌}
+use Rattle.std.specs.declared.option.Option.{Option}
 use Rattle.std.proofs.lemmas.Bool.{false≢true}
 use Rattle.std.proofs.lemmas.Bool.Decides.{nat_tests}
-use Rattle.std.proofs.Common.{◌≡◌, ◌⊎◌, ◌∙◌, Bool, true, false, not, ◌&&◌, ◌==◌, ◌-◌, nat_lt, min, ℕ, ◌+◌, ◌*◌, ◌%◌, ◌^◌, ◌<◌, ◌≤◌, List, [], ◌∷◌, drop, Some, None, refl, subst, ap, arith, inl, inr}
-use Rattle.flash_pages.specs.declared.chip.TheConstants.{BLOCK_BYTES}
+use Rattle.std.proofs.Common.{◌≡◌, ◌⊎◌, ◌∙◌, Bool, true, false, not, ◌&&◌, ◌==◌, ◌-◌, nat_lt, min, ℕ, ◌+◌, ◌*◌, ◌/◌, ◌%◌, ◌^◌, ◌<◌, ◌≤◌, List, [], ◌∷◌, drop, Some, None, refl, sym, subst, ap, arith, inl, inr}
+use Rattle.hpb_outside.specs.Faults.{Rose}
+use Rattle.flash_pages.specs.declared.chip.ChipOp.TheVariants.{Read as ReadCall}
+use Rattle.flash_pages.specs.Place.{Place}
+use Rattle.flash_pages.specs.Unit.{current}
+use Rattle.flash_store.specs.Store.{StoreState}
 use Rattle.hpb_cdb.specs.declared.cdb.Cdb.{Cdb}
 use Rattle.hpb_cdb.specs.declared.cdb.Cdb.TheVariants.{TestReady, Read, Write, Capacity, Sync, HpbRead, ReadBuffer, Prefetch, InactOne, InactAll}
 use Rattle.hpb_cdb.specs.declared.limits.Limits.{Limits}
@@ -11,10 +16,10 @@ use Rattle.hpb_device.specs.declared.task.Task.{Task}
 use Rattle.upiu_wire.specs.Upiu.{Upiu}
 use Rattle.hpb_device.specs.declared.reply.Reply.{Reply}
 use Rattle.hpb_device.specs.declared.reply.Reply.TheVariants.{Check}
-use Rattle.hpb_device.specs.declared.reply.Cause.TheVariants.{DataNotAsked}
+use Rattle.hpb_device.specs.declared.reply.Cause.TheVariants.{DataNotAsked, ReadFailed}
 use Rattle.hpb_device.specs.Accept.{EndsFirst, IsNextPiece, TakesPiece}
 use Rattle.hpb_device.specs.Task.{WaitsForData, head_of, IsTaskOk, IsServed, HasTried, bytes_given, bytes_taken, steps_of, tries_entry, tries_entry_of}
-use Rattle.hpb_device.specs.Advance.{ReadsBlocks, first_block}
+use Rattle.hpb_device.specs.Advance.{CallIsDue, Fails, ReadsBlocks, call_of, check, failure_of, first_block, reads_page}
 
 -- a write of so many blocks
 pub record Writes (lim : Limits) (task : Task) (lba n : ℕ) : Type 0 where
@@ -22,21 +27,21 @@ pub record Writes (lim : Limits) (task : Task) (lba n : ℕ) : Type 0 where
   pub within : lba + n ≤ lim.units
   pub first : first_block task.command ≡ lba
   pub gives : task.given ≡ 0
-  pub takes : bytes_taken task.command ≡ BLOCK_BYTES * n
+  pub takes : bytes_taken task.command ≡ 4096 * n
   pub none_sent : task.sent ≡ 0
   pub untried : tries_entry task ≡ false
 
 pub writes : (luns : ℕ) (lim : Limits) (lba n : ℕ) (task : Task) → IsTaskOk luns lim task → task.command ≡ Write lba n → Writes lim task lba n
 writes luns lim lba n task ok is =
-    let range : lba + n ≤ lim.units = subst (IsServed lim) is ok.served in
-    let gives : task.given ≡ 0 = ok.given ∙ ap (bytes_given lim) is in
+    let range : lba + n ≤ lim.units = subst (IsServed lim) is ok.accepted.served in
+    let gives : task.given ≡ 0 = ok.accepted.given ∙ ap (bytes_given lim) is in
     record {
-      range = omega (arith, ok.few_blocks, range);
+      range = omega (arith, ok.accepted.few_blocks, range);
       within = range;
       first = ap first_block is;
       gives = gives;
       takes = ap bytes_taken is;
-      none_sent = omega (arith, ok.sent, gives);
+      none_sent = omega (arith, ok.within.sent, gives);
       untried = ap (λ (c : Cdb). tries_entry_of c task) is;
     }
 
@@ -45,32 +50,47 @@ pub record Reads (lim : Limits) (task : Task) : Type 0 where
   pub n : ℕ
   pub range : first_block task.command + n < 2 ^ 32
   pub within : first_block task.command + n ≤ lim.units
-  pub gives : task.given ≡ BLOCK_BYTES * n
+  pub gives : task.given ≡ 4096 * n
   pub takes : bytes_taken task.command ≡ 0
-  pub whole : task.sent % BLOCK_BYTES ≡ 0
+  pub whole : task.sent % 4096 ≡ 0
 
 reads_by : (lim : Limits) (command : Cdb) → ReadsBlocks command → IsServed lim command
     → (n : ℕ) × (bytes_given lim command ≡ 4096 * n) × (first_block command + n ≤ lim.units) × (bytes_taken command ≡ 0)
 reads_by lim (Read lba n) is served = (n, refl, served, refl)
 reads_by lim (HpbRead lba entry n id) is served = (n, refl, served, refl)
-reads_by lim TestReady is served = absurd is
-reads_by lim (Write lba n) is served = absurd is
-reads_by lim Capacity is served = absurd is
-reads_by lim (Sync lba n) is served = absurd is
-reads_by lim (ReadBuffer region sub len) is served = absurd is
-reads_by lim (Prefetch lba id len) is served = absurd is
-reads_by lim (InactOne region) is served = absurd is
-reads_by lim InactAll is served = absurd is
+reads_by lim _ is served = absurd is
 
 pub reads : (luns : ℕ) (lim : Limits) (task : Task) → IsTaskOk luns lim task → ReadsBlocks task.command → Reads lim task
 reads luns lim task ok is =
-    let by = reads_by lim task.command is ok.served in
-    let given : task.given ≡ 4096 * by.0 = ok.given ∙ by.1 in
-    let whole : task.sent % 4096 ≡ 0 = elim ok.whole_sent [
+    let by = reads_by lim task.command is ok.accepted.served in
+    let given : task.given ≡ 4096 * by.0 = ok.accepted.given ∙ by.1 in
+    let whole : task.sent % 4096 ≡ 0 = elim ok.within.whole_sent [
       | inl part ↦ part
       | inr all ↦ omega (arith, all, given)
     ] in
-    record { n = by.0; range = omega (arith, ok.few_blocks, by.2); within = by.2; gives = given; takes = by.3; whole = whole }
+    record { n = by.0; range = omega (arith, ok.accepted.few_blocks, by.2); within = by.2; gives = given; takes = by.3; whole = whole }
+
+-- a page that is read for a look-up
+some_true : (o : Option ℕ) → IsSome o → is_some o ≡ true
+some_true None is = absurd (false≢true is)
+some_true (Some n) is = refl
+
+pub reads_looked_up : (old : StoreState) (task : Task) (lba : ℕ) → tries_entry task ≡ false → first_block task.command ≡ lba
+    → (let p : Place = record { lun = task.lun; lba = lba + task.sent / 4096 } in IsSome (current old.pages p)) → reads_page old task ≡ true
+reads_looked_up old task lba untried first is = rw (untried, first) (some_true _ is)
+
+-- a read that was due failed
+fails_by : (old : StoreState) (task : Task) (command : Cdb) → ReadsBlocks command → task.sent < task.given → reads_page old task ≡ true
+    → CallIsDue old task command × (ReadCall ≡ call_of command) × (failure_of command ≡ ReadFailed)
+fails_by old task (Read lba n) is more due = ((more, due), refl, refl)
+fails_by old task (HpbRead lba entry n id) is more due = ((more, due), refl, refl)
+fails_by old task _ is more due = absurd is
+
+pub read_fails : (old new : StoreState) (task : Task) (reply : Reply) → ReadsBlocks task.command → task.sent < task.given → reads_page old task ≡ true
+    → Rose old.faults new.faults → reply ≡ check task ReadFailed → Fails old new task ReadCall reply
+read_fails old new task reply is more due rose answer =
+    let by = fails_by old task task.command is more due in
+    record { due = by.0; cause = rose; call = by.1; answer = answer ∙ sym (ap (check task) by.2) }
 
 -- a command that has an entry to try reads a block, and has sent none
 pub record Tries (lim : Limits) (command : Cdb) (task : Task) : Type 0 where
@@ -90,15 +110,7 @@ tries_of lim (HpbRead lba entry n id) task is =
     let none : task.sent ≡ 0 = grind (arith, nat_tests, at.0) in
     let some : 0 < n = grind (arith, nat_tests, more.0) in
     record { reads = tt; none_sent = none; some = omega (arith, some); untried = none }
-tries_of lim TestReady task is = absurd (false≢true is)
-tries_of lim (Read lba n) task is = absurd (false≢true is)
-tries_of lim (Write lba n) task is = absurd (false≢true is)
-tries_of lim Capacity task is = absurd (false≢true is)
-tries_of lim (Sync lba n) task is = absurd (false≢true is)
-tries_of lim (ReadBuffer region sub len) task is = absurd (false≢true is)
-tries_of lim (Prefetch lba id len) task is = absurd (false≢true is)
-tries_of lim (InactOne region) task is = absurd (false≢true is)
-tries_of lim InactAll task is = absurd (false≢true is)
+tries_of lim _ task is = absurd (false≢true is)
 
 no_tries : (command : Cdb) (task : Task) → (task.sent == 0) && not task.tried ≡ false → tries_entry_of command task ≡ false
 no_tries (HpbRead lba entry n id) task is = swap (task.sent == 0) (nat_lt 0 n) (not task.tried) is
@@ -107,37 +119,27 @@ no_tries (HpbRead lba entry n id) task is = swap (task.sent == 0) (nat_lt 0 n) (
     swap false b c is = refl
     swap true true c is = is
     swap true false c is = refl
-no_tries TestReady task is = refl
-no_tries (Read lba n) task is = refl
-no_tries (Write lba n) task is = refl
-no_tries Capacity task is = refl
-no_tries (Sync lba n) task is = refl
-no_tries (ReadBuffer region sub len) task is = refl
-no_tries (Prefetch lba id len) task is = refl
-no_tries (InactOne region) task is = refl
-no_tries InactAll task is = refl
+no_tries _ task is = refl
 
 one_at_most : (b : Bool) → 0 ≤ (if b then 1 else 0)
 one_at_most b = omega arith
 
 -- after one more block
-pub block_ok : (luns : ℕ) (lim : Limits) (task : Task) → IsTaskOk luns lim task → ReadsBlocks task.command → task.sent < task.given → IsTaskOk luns lim (record task { sent = task.sent + 4096; tried = false })
+pub block_ok : (luns : ℕ) (lim : Limits) (task : Task) → IsTaskOk luns lim task → ReadsBlocks task.command → task.sent < task.given
+    → IsTaskOk luns lim (record task { sent = task.sent + 4096; tried = false })
 block_ok luns lim task ok is more =
     let r = reads luns lim task ok is in
     record {
-      lun = ok.lun;
-      served = ok.served;
-      few_blocks = ok.few_blocks;
-      expected_fits = ok.expected_fits;
-      given = ok.given;
-      fits = ok.fits;
-      asked = ok.asked;
-      whole_asked = ok.whole_asked;
-      come = ok.come;
-      programmed = ok.programmed;
-      sent = omega (arith, more, r.gives, r.whole);
-      whole_sent = inl (omega (arith, r.whole));
-      tried = tt;
+      accepted = ok.accepted;
+      within = record {
+        asked = ok.within.asked;
+        whole_asked = ok.within.whole_asked;
+        come = ok.within.come;
+        programmed = ok.within.programmed;
+        sent = omega (arith, more, r.gives, r.whole);
+        whole_sent = inl (omega (arith, r.whole));
+        tried = tt;
+      };
     }
 
 pub block_fewer : (luns : ℕ) (lim : Limits) (task : Task) → IsTaskOk luns lim task → ReadsBlocks task.command → task.sent < task.given
@@ -147,37 +149,26 @@ block_fewer luns lim task ok is more =
     let later : ((task.sent + 4096) == 0) ≡ false = grind (arith, nat_tests) in
     let none = no_tries task.command (record task { sent = task.sent + 4096; tried = false }) (ap (λ (b : Bool). b && true) later) in
     let some = one_at_most (tries_entry task) in
-    rw none (omega (arith, more, r.gives, r.whole, ok.given, some))
+    rw none (omega (arith, more, r.gives, r.whole, ok.accepted.given, some))
 
 -- after an entry that was tried in vain
 pub missed_ok : (luns : ℕ) (lim : Limits) (task : Task) → IsTaskOk luns lim task → tries_entry task ≡ true → IsTaskOk luns lim (record task { tried = true })
 missed_ok luns lim task ok is = record {
-  lun = ok.lun;
-  served = ok.served;
-  few_blocks = ok.few_blocks;
-  expected_fits = ok.expected_fits;
-  given = ok.given;
-  fits = ok.fits;
-  asked = ok.asked;
-  whole_asked = ok.whole_asked;
-  come = ok.come;
-  programmed = ok.programmed;
-  sent = ok.sent;
-  whole_sent = ok.whole_sent;
-  tried = untried task.command (tries_of lim task.command task is).untried;
+  accepted = ok.accepted;
+  within = record {
+    asked = ok.within.asked;
+    whole_asked = ok.within.whole_asked;
+    come = ok.within.come;
+    programmed = ok.within.programmed;
+    sent = ok.within.sent;
+    whole_sent = ok.within.whole_sent;
+    tried = untried task.command (tries_of lim task.command task is).untried;
+  };
 }
   where
     untried : (command : Cdb) → HasTried command task → HasTried command (record task { tried = true })
     untried (HpbRead lba entry n id) none = none
-    untried TestReady none = none
-    untried (Read lba n) none = none
-    untried (Write lba n) none = none
-    untried Capacity none = none
-    untried (Sync lba n) none = none
-    untried (ReadBuffer region sub len) none = none
-    untried (Prefetch lba id len) none = none
-    untried (InactOne region) none = none
-    untried InactAll none = none
+    untried _ none = absurd none
 
 pub missed_fewer : (lim : Limits) (task : Task) → tries_entry task ≡ true → steps_of lim (record task { tried = true }) < steps_of lim task
 missed_fewer lim task is =

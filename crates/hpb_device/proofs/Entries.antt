@@ -37,9 +37,12 @@ use Rattle.hpb_device.specs.declared.reply.Reply.{Reply}
 use Rattle.hpb_device.specs.declared.reply.Reply.TheVariants.{NopIn, Reject, Good, TaskSetFull, Check}
 use Rattle.hpb_device.specs.declared.task.Task.{Task}
 use Rattle.hpb_device.specs.declared.advance.Progress.{Progress}
-use Rattle.hpb_device.specs.declared.advance.Progress.TheVariants.{Shown, Found, Missed, Listed, Told, Asked, Programmed, Ended, Failed}
+use Rattle.hpb_device.specs.declared.advance.Progress.TheVariants.{Sends, Silent, Ended, Failed}
+use Rattle.hpb_device.specs.declared.advance.Transfer.{Transfer}
+use Rattle.hpb_device.specs.declared.advance.Transfer.TheVariants.{LookedUp, ByEntry, EntryList, UnitCapacity, Ready}
+use Rattle.hpb_device.specs.declared.advance.Internal.TheVariants.{Missed, Programmed}
 use Rattle.hpb_device.specs.declared.device.Stepped.{Stepped}
-use Rattle.hpb_device.specs.Advance.{Advances, IsSameStore, ReadsBlocks, SendsBlock, capacity_of, entry_given, first_block, first_listed, nth_place}
+use Rattle.hpb_device.specs.Advance.{Advances, Asks, IsSameStore, Lists, Misses, Programs, ReadsBlocks, SendsBlock, Transfers, capacity_of, entry_given, first_block, first_listed, nth_place}
 use Rattle.hpb_device.specs.Calls.{EndsHead, Keeps, Leaves, TakesData}
 use Rattle.hpb_device.specs.Entries.{EntriesStand, FreshHonoured, IsStale, TriedStale}
 use Rattle.hpb_device.specs.Keeps.{waiting_of}
@@ -48,7 +51,7 @@ use Rattle.hpb_device.specs.Standing.{DeviceStands, group_of, sizes_of}
 use Rattle.hpb_device.specs.State.{DeviceState}
 use Rattle.hpb_device.specs.Task.{IsQueue, IsWaiting, bytes_taken}
 use Rattle.hpb_device.proofs.Commands.{reads, tries_of}
-use Rattle.hpb_device.proofs.Stepping.{IsReady, flat, is_written, ready_of, sizes_same}
+use Rattle.hpb_device.proofs.StepStands.{Turn, head_in, is_written, others_in, sizes_same, tasks_at}
 use Rattle.flash_store.specs.Store.{StoreState}
 use Rattle.flash_pages.specs.Unit.{block_of}
 use Rattle.hpb_cdb.specs.declared.limits.Limits.{Limits}
@@ -57,6 +60,7 @@ use Rattle.flat_unit.specs.History.{followed_by}
 use Rattle.flat_unit.specs.Stands.{First}
 use Rattle.std.specs.Prelude.{slice_range, slice_set}
 use Rattle.hpb_device.specs.Reply.{reply_upiu}
+use Rattle.hpb_device.specs.Advance.{Tells}
 
 -- an event that lists nothing
 abbrev pub ListsNone : Sizes → History → Event → Type 0
@@ -76,15 +80,7 @@ stale_place s e ev p x none stale = rw (ap (is_entry x) none) (still (not (x == 
 
 stale_stays : (s : Sizes) (e : History) (ev : Event) (task : Task) (command : Cdb) → ListsNone s e ev → IsStale s e task command → IsStale s (e ▹ ev) task command
 stale_stays s e ev task (HpbRead lba entry n id) none stale = stale_place s e ev (record { lun = task.lun; lba = lba }) entry (none _) stale
-stale_stays s e ev task TestReady none stale = tt
-stale_stays s e ev task (Read lba n) none stale = tt
-stale_stays s e ev task (Write lba n) none stale = tt
-stale_stays s e ev task Capacity none stale = tt
-stale_stays s e ev task (Sync lba n) none stale = tt
-stale_stays s e ev task (ReadBuffer region sub len) none stale = tt
-stale_stays s e ev task (Prefetch lba id len) none stale = tt
-stale_stays s e ev task (InactOne region) none stale = tt
-stale_stays s e ev task InactAll none stale = tt
+stale_stays s e ev task _ none stale = tt
 
 on_true : (b : Bool) {P Q : Type 0} → (P → Q) → OnTrue b P → OnTrue b Q
 on_true true f p = f p
@@ -125,7 +121,8 @@ transfer_lists_none s e lun tag offset count p = by_tasks (tasks_after s e)
     by_tasks (task ∷ others) = refl
 
 -- what a DATA IN of the first task lists
-data_listed : (s : Sizes) (e : History) (task : Waiting) (others : List Waiting) (lun tag offset : ℕ) (bytes : List ℕ) (p : Place) → offset < 2 ^ 32 → length bytes < 2 ^ 16 → tasks_after s e ≡ task ∷ others
+data_listed : (s : Sizes) (e : History) (task : Waiting) (others : List Waiting) (lun tag offset : ℕ) (bytes : List ℕ) (p : Place) → offset < 2 ^ 32 → length bytes < 2 ^ 16
+    → tasks_after s e ≡ task ∷ others
     → listed s (tasks_after s e) (Device (upiu_out (data_upiu DataIn lun tag offset bytes))) p ≡ (if has_tag tag task then listed_by s task task.command bytes p else None)
 data_listed s e task others lun tag offset bytes p offset_fits bytes_fit is =
     let v = data_upiu DataIn lun tag offset bytes in
@@ -143,16 +140,10 @@ IsNoList command = (s : Sizes) (task : Waiting) (piece : List ℕ) (p : Place) �
 read_is_no_list : (command : Cdb) → ReadsBlocks command → IsNoList command
 read_is_no_list (Read lba n) is = λ s task piece p. refl
 read_is_no_list (HpbRead lba entry n id) is = λ s task piece p. refl
-read_is_no_list TestReady is = absurd is
-read_is_no_list (Write lba n) is = absurd is
-read_is_no_list Capacity is = absurd is
-read_is_no_list (Sync lba n) is = absurd is
-read_is_no_list (ReadBuffer region sub len) is = absurd is
-read_is_no_list (Prefetch lba id len) is = absurd is
-read_is_no_list (InactOne region) is = absurd is
-read_is_no_list InactAll is = absurd is
+read_is_no_list _ is = absurd is
 
-data_lists_none : (s : Sizes) (e : History) (task : Waiting) (others : List Waiting) (lun tag offset : ℕ) (bytes : List ℕ) → offset < 2 ^ 32 → length bytes < 2 ^ 16 → tasks_after s e ≡ task ∷ others → IsNoList task.command
+data_lists_none : (s : Sizes) (e : History) (task : Waiting) (others : List Waiting) (lun tag offset : ℕ) (bytes : List ℕ) → offset < 2 ^ 32 → length bytes < 2 ^ 16
+    → tasks_after s e ≡ task ∷ others → IsNoList task.command
     → ListsNone s e (Device (upiu_out (data_upiu DataIn lun tag offset bytes)))
 data_lists_none s e task others lun tag offset bytes offset_fits bytes_fit is none p =
     data_listed s e task others lun tag offset bytes p offset_fits bytes_fit is ∙ either_none (has_tag tag task) (listed_by s task task.command bytes p) (none s task bytes p)
@@ -194,7 +185,8 @@ honoured_listed s chip e task others region sub len count bytes is few command w
     entry_of_none true x o at = at
     entry_of_none false x o at = absurd (false≢true at)
 
-    lists : (p : Place) (x : ℕ) → IsPlace s.luns s.units p → not (x == no_page) ≡ true → is_entry x (listed s (tasks_after s e) (Device (upiu_out (data_upiu DataIn task.lun task.tag task.sent piece))) p) ≡ true → current chip p ≡ Some x
+    lists : (p : Place) (x : ℕ) → IsPlace s.luns s.units p → not (x == no_page) ≡ true
+        → is_entry x (listed s (tasks_after s e) (Device (upiu_out (data_upiu DataIn task.lun task.tag task.sent piece))) p) ≡ true → current chip p ≡ Some x
     lists p x place real at =
         let by = sym (ap (is_entry x) (data_listed s e task others task.lun task.tag task.sent piece p offset_fits bytes_fit is)) ∙ at in
         let entry = listed_entry s task region sub len count bytes entry_at p x command whole (λ lba. entry_fits chip (record { lun = task.lun; lba = lba }) few)
@@ -242,18 +234,11 @@ missed_stale s chip e task (HpbRead lba entry n id) keeps lun inside refused = b
     by_fresh : (b : Bool) → is_fresh s e here entry ≡ b → b ≡ false
     by_fresh false is = refl
     by_fresh true is = absurd (refused (keeps here entry (record { lun = lun; lba = inside }) is))
-missed_stale s chip e task TestReady keeps lun inside refused = tt
-missed_stale s chip e task (Read lba n) keeps lun inside refused = tt
-missed_stale s chip e task (Write lba n) keeps lun inside refused = tt
-missed_stale s chip e task Capacity keeps lun inside refused = tt
-missed_stale s chip e task (Sync lba n) keeps lun inside refused = tt
-missed_stale s chip e task (ReadBuffer region sub len) keeps lun inside refused = tt
-missed_stale s chip e task (Prefetch lba id len) keeps lun inside refused = tt
-missed_stale s chip e task (InactOne region) keeps lun inside refused = tt
-missed_stale s chip e task InactAll keeps lun inside refused = tt
+missed_stale s chip e task _ keeps lun inside refused = tt
 
 -- a device with these sizes
-entries_now : (d now : DeviceState) (e : History) → IsSameStore d.store now.store → now.shape ≡ d.shape → FreshHonoured (sizes_of d) now.store.pages e → TriedStale (sizes_of d) e now.tasks → EntriesStand now e
+entries_now : (d now : DeviceState) (e : History) → IsSameStore d.store now.store → now.shape ≡ d.shape → FreshHonoured (sizes_of d) now.store.pages e → TriedStale (sizes_of d) e now.tasks
+    → EntriesStand now e
 entries_now d now e same shape fresh tried =
     let sized = sizes_same d now same shape in
     record { fresh = subst (λ (s : Sizes). FreshHonoured s now.store.pages e) sized fresh; tried = subst (λ (s : Sizes). TriedStale s e now.tasks) sized tried }
@@ -270,147 +255,155 @@ waiting_untried : (luns : ℕ) (lim : Limits) (s : Sizes) (e : History) (others 
 waiting_untried luns lim s e [] tasks is all = rw is tt
 waiting_untried luns lim s e (next ∷ others) tasks is all = rw (is, all.0.none_tried) tt
 
--- the first task of the history that a device stands at
-tasks_at : (d : DeviceState) (task : Task) (others : List Task) (first : First) (e : History) (at : DeviceStands d first e) → (ready : IsReady d task others at.tasks) → tasks_after (sizes_of d) e ≡ flat task ready.only.come ∷ map waiting_of others
-tasks_at d task others first e at ready = at.stands.keeps ∙ ready.only.first
+-- a block that is sent, and the capacity, list nothing
+shown_lists_none : (turn : Turn) (rest : Task) (out : List ℕ) → SendsBlock turn.old.store turn.task rest out → ListsNone (sizes_of turn.old) turn.history (Device out)
+shown_lists_none turn rest out shows =
+    let s = sizes_of turn.old in
+    let task = turn.task in
+    let block = block_of turn.old.store.pages (nth_place task (task.sent / 4096)) in
+    let ok = turn.ready.ok in
+    subst (λ (b : List ℕ). ListsNone s turn.history (Device b)) (sym shows.sent)
+    (data_lists_none s turn.history (head_in turn) (others_in turn) task.lun task.tag task.sent block
+    (omega (arith, shows.more, ok.accepted.fits, ok.accepted.expected_fits)) (omega (arith, shows.size)) (tasks_at turn) (read_is_no_list task.command shows.reads))
 
--- after a block was sent
-shown_entries : (d now : DeviceState) (task rest : Task) (others : List Task) (out : List ℕ) (first : First) (e : History) (at : DeviceStands d first e) → IsReady d task others at.tasks
-    → SendsBlock d.store task rest out → now.store.pages ≡ d.store.pages → now.tasks ≡ rest ∷ others → IsSameStore d.store now.store → now.shape ≡ d.shape
-    → EntriesStand d e → EntriesStand now (e ▹ Device out)
-shown_entries d now task rest others out first e at ready shows pages head same shape stand =
-    let s = sizes_of d in
-    let block = block_of d.store.pages (nth_place task (task.sent / 4096)) in
-    let none : ListsNone s e (Device out) = subst (λ (b : List ℕ). ListsNone s e (Device b)) (sym shows.sent)
-    (data_lists_none s e (flat task ready.only.come) (map waiting_of others) task.lun task.tag task.sent block (omega (arith, shows.more, ready.ok.fits, ready.ok.expected_fits)) (omega (arith, shows.size)) (tasks_at d task others first e at ready) (read_is_no_list task.command shows.reads)) in
-    let untried : rest.tried ≡ false = ap (λ (t : Task). t.tried) shows.task_is in
-    entries_now d now (e ▹ Device out) same shape
-    (rw pages (honoured_stays s d.store.pages e (Device out) none stand.fresh))
-    (rw (head, untried) tt)
+told_lists_none : (turn : Turn) (rest : Task) (out : List ℕ) → Tells turn.old.store.units turn.task rest out → ListsNone (sizes_of turn.old) turn.history (Device out)
+told_lists_none turn rest out tells =
+    let s = sizes_of turn.old in
+    let task = turn.task in
+    let size : length (capacity_of turn.old.store.units) < 2 ^ 16 = omega arith in
+    subst (λ (b : List ℕ). ListsNone s turn.history (Device b)) (sym tells.sent)
+    (data_lists_none s turn.history (head_in turn) (others_in turn) task.lun task.tag task.sent (capacity_of turn.old.store.units)
+    (omega (arith, tells.none_sent)) size (tasks_at turn) (subst IsNoList (sym tells.command) (λ s task piece p. refl)))
 
--- after an event that lists nothing, where the first task goes on and tries no entry
-quiet_entries : (d now : DeviceState) (rest : Task) (others : List Task) (out : List ℕ) (e : History) → ListsNone (sizes_of d) e (Device out) → ((s : Sizes) (e : History) → IsStale s e rest rest.command)
-    → now.store.pages ≡ d.store.pages → now.tasks ≡ rest ∷ others → IsSameStore d.store now.store → now.shape ≡ d.shape → EntriesStand d e → EntriesStand now (e ▹ Device out)
-quiet_entries d now rest others out e none stale pages head same shape stand =
-    entries_now d now (e ▹ Device out) same shape
-    (rw pages (honoured_stays (sizes_of d) d.store.pages e (Device out) none stand.fresh))
-    (untried_task (sizes_of d) (e ▹ Device out) rest others now.tasks head (stale (sizes_of d)))
+asked_lists_none : (turn : Turn) (rest : Task) (count : ℕ) (out : List ℕ) → Asks turn.task rest count out → ListsNone (sizes_of turn.old) turn.history (Device out)
+asked_lists_none turn rest count out asks =
+    subst (λ (b : List ℕ). ListsNone (sizes_of turn.old) turn.history (Device b)) (sym asks.sent) (transfer_lists_none (sizes_of turn.old) turn.history turn.task.lun turn.task.tag turn.task.asked count)
 
--- after the first task ended
-ended_entries : (d now : DeviceState) (others : List Task) (reply : Reply) (out : List ℕ) (e : History) → AllByRecursion (IsWaiting d.store.luns (limits_of d.shape)) others → out ≡ upiu_out (reply_upiu reply)
-    → now.store.pages ≡ d.store.pages → now.tasks ≡ others → IsSameStore d.store now.store → now.shape ≡ d.shape → FreshHonoured (sizes_of d) d.store.pages e → EntriesStand now (e ▹ Device out)
-ended_entries d now others reply out e waiting sent pages left same shape fresh =
-    let s = sizes_of d in
-    let none : ListsNone s e (Device out) = subst (λ (b : List ℕ). ListsNone s e (Device b)) (sym sent) (reply_lists_none s e reply) in
-    entries_now d now (e ▹ Device out) same shape
-    (rw pages (honoured_stays s d.store.pages e (Device out) none fresh))
-    (waiting_untried d.store.luns (limits_of d.shape) s (e ▹ Device out) others now.tasks left waiting)
+-- a transfer that is no list of entries lists nothing
+pub sent_lists_none : (turn : Turn) (what : Transfer) (rest : Task) (out : List ℕ) → Transfers (limits_of turn.old.shape) turn.old.store what turn.task rest out
+    → ((count : ℕ) × Lists (limits_of turn.old.shape) turn.old.store turn.task rest count out) ⊎ ListsNone (sizes_of turn.old) turn.history (Device out)
+sent_lists_none turn LookedUp rest out shows = inr (shown_lists_none turn rest out shows.sends)
+sent_lists_none turn ByEntry rest out finds = inr (shown_lists_none turn rest out finds.sends)
+sent_lists_none turn EntryList rest out lists = inl lists
+sent_lists_none turn UnitCapacity rest out tells = inr (told_lists_none turn rest out tells)
+sent_lists_none turn Ready rest out asks = inr (asked_lists_none turn rest asks.0 out asks.1)
 
--- what a step leaves
-pub stepped_entries : (d now : DeviceState) (task : Task) (others : List Task) (progress : Progress) (result : Stepped) (out : List ℕ) (first : First) (e : History) → d.tasks ≡ task ∷ others
-    → IsQueue d.store.luns (limits_of d.shape) d.held d.tasks → d.store.units ≡ d.shape.units → task.come ≡ task.asked → length d.store.pages ≤ 65536
-    → Advances (limits_of d.shape) d.store now.store d.held now.held task progress out → Leaves progress others now.tasks now.held result out → IsSameStore d.store now.store → now.shape ≡ d.shape
-    → DeviceStands d first e → EntriesStand d e → EntriesStand now (followed_by e (events_of (group_of result out)))
-stepped_entries d now task others (Shown rest) result out first e was queue units goes few advances leaves same shape at stand =
-    let ready = ready_of d task others first e at was queue units goes in
-    subst (λ (r : Stepped). EntriesStand now (followed_by e (events_of (group_of r out)))) (sym leaves.1)
-    (shown_entries d now task rest others out first e at ready advances.0.sends advances.1 leaves.0 same shape stand)
-stepped_entries d now task others (Found rest) result out first e was queue units goes few advances leaves same shape at stand =
-    let ready = ready_of d task others first e at was queue units goes in
-    subst (λ (r : Stepped). EntriesStand now (followed_by e (events_of (group_of r out)))) (sym leaves.1)
-    (shown_entries d now task rest others out first e at ready advances.0.sends advances.1 leaves.0 same shape stand)
-stepped_entries d now task others (Missed rest) result out first e was queue units goes few advances leaves same shape at stand =
-    let ready = ready_of d task others first e at was queue units goes in
-    let tries = tries_of (limits_of d.shape) task.command task advances.0.tries in
-    let moves = reads d.store.luns (limits_of d.shape) task ready.ok tries.reads in
-    let inside : first_block task.command < d.shape.units = omega (arith, moves.within, moves.gives, tries.some, ready.ok.given) in
-    let here : Rattle.flash_pages.specs.Place.Place = record { lun = task.lun; lba = first_block task.command } in
-    let refused : ¬ IsHonoured d.store.pages here (entry_given task.command) =
-    subst (λ (n : ℕ). let p : Rattle.flash_pages.specs.Place.Place = record { lun = task.lun; lba = n } in ¬ IsHonoured d.store.pages p (entry_given task.command)) (omega arith) advances.0.refused in
-    let stale : IsStale (sizes_of d) e task task.command = missed_stale (sizes_of d) d.store.pages e task task.command stand.fresh ready.ok.lun inside refused in
-    let now_task : Task = record task { tried = true } in
-    let head : now.tasks ≡ now_task ∷ others = leaves.0 ∙ ap (λ (r : Task). r ∷ others) advances.0.task_is in
-    subst (λ (r : Stepped). EntriesStand now (followed_by e (events_of (group_of r out)))) (sym leaves.1)
-    (entries_now d now e same shape (rw (advances.1) (stand.fresh)) (rw head (same_stale (sizes_of d) e task task.command stale)))
-  where
-    same_stale : (s : Sizes) (e : History) (task : Task) (command : Cdb) → IsStale s e task command → IsStale s e (record task { tried = true }) command
-    same_stale s e task (HpbRead lba entry n id) stale = stale
-    same_stale s e task TestReady stale = tt
-    same_stale s e task (Read lba n) stale = tt
-    same_stale s e task (Write lba n) stale = tt
-    same_stale s e task Capacity stale = tt
-    same_stale s e task (Sync lba n) stale = tt
-    same_stale s e task (ReadBuffer region sub len) stale = tt
-    same_stale s e task (Prefetch lba id len) stale = tt
-    same_stale s e task (InactOne region) stale = tt
-    same_stale s e task InactAll stale = tt
-stepped_entries d now task others (Listed rest) result out first e was queue units goes few advances leaves same shape at stand =
-    let ready = ready_of d task others first e at was queue units goes in
-    let lists = advances.1 in
+-- entries that are sent are honoured
+honoured_sent : (turn : Turn) (rest : Task) (count : ℕ) (out : List ℕ) → Lists (limits_of turn.old.shape) turn.old.store turn.task rest count out
+    → FreshHonoured (sizes_of turn.old) turn.old.store.pages turn.history → FreshHonoured (sizes_of turn.old) turn.old.store.pages (turn.history ▹ Device out)
+honoured_sent turn rest count out lists fresh =
+    let d = turn.old in
+    let task = turn.task in
+    let e = turn.history in
+    let ok = turn.ready.ok in
     let s = sizes_of d in
     let is = lists.read_buffer.3 in
-    let t = flat task ready.only.come in
-    let count = advances.0 in
     let entry_at : ℕ → ℕ = λ lba. entry_for d.store.pages (record { lun = task.lun; lba = lba }) in
     let bytes = take count (entries_from entry_at (first_listed (limits_of d.shape) task.command + task.sent / 8) ((count + 7) / 8)) in
-    let few_bytes : length bytes < 2 ^ 16 = let most = length-take count (entries_from entry_at (first_listed (limits_of d.shape) task.command + task.sent / 8) ((count + 7) / 8)) in omega (arith, most, lists.counted) in
-    let whole : task.sent % 8 ≡ 0 = elim ready.ok.whole_sent [
+    let most = length-take count (entries_from entry_at (first_listed (limits_of d.shape) task.command + task.sent / 8) ((count + 7) / 8)) in
+    let few_bytes : length bytes < 2 ^ 16 = omega (arith, most, lists.counted) in
+    let whole : task.sent % 8 ≡ 0 = elim ok.within.whole_sent [
       | inl part ↦ omega (arith, part)
       | inr all ↦ absurd (omega (arith, all, lists.more))
     ] in
     let from : first_listed (limits_of d.shape) task.command ≡ first_block_of s lists.read_buffer.0 lists.read_buffer.1 = ap (first_listed (limits_of d.shape)) is in
-    let Fresh : ℕ → Type 0 = λ n. FreshHonoured s d.store.pages (e ▹ Device (upiu_out (data_upiu DataIn task.lun task.tag task.sent (take count (entries_from entry_at (n + task.sent / 8) ((count + 7) / 8)))))) in
+    let Fresh : ℕ → Type 0 =
+    λ n. FreshHonoured s d.store.pages (e ▹ Device (upiu_out (data_upiu DataIn task.lun task.tag task.sent (take count (entries_from entry_at (n + task.sent / 8) ((count + 7) / 8)))))) in
     let Few : ℕ → Type 0 = λ n. length (take count (entries_from entry_at (n + task.sent / 8) ((count + 7) / 8))) < 2 ^ 16 in
-    let fresh : Fresh (first_listed (limits_of d.shape) task.command) = subst Fresh (sym from)
-    (honoured_listed s d.store.pages e t (map waiting_of others) lists.read_buffer.0 lists.read_buffer.1 lists.read_buffer.2 ((count + 7) / 8) count (tasks_at d task others first e at ready) few is whole
-    (omega (arith, lists.more, ready.ok.fits, ready.ok.expected_fits)) (subst Few from few_bytes) stand.fresh) in
-    let now_fresh : FreshHonoured s now.store.pages (e ▹ Device out) = rw (advances.2, lists.sent) fresh in
-    let command : rest.command ≡ ReadBuffer lists.read_buffer.0 lists.read_buffer.1 lists.read_buffer.2 = ap (λ (t : Task). t.command) lists.task_is ∙ is in
-    subst (λ (r : Stepped). EntriesStand now (followed_by e (events_of (group_of r out)))) (sym leaves.1)
-    (entries_now d now (e ▹ Device out) same shape now_fresh (untried_task s (e ▹ Device out) rest others now.tasks leaves.0 (λ e. subst (IsStale s e rest) (sym command) tt)))
-stepped_entries d now task others (Told rest) result out first e was queue units goes few advances leaves same shape at stand =
-    let ready = ready_of d task others first e at was queue units goes in
-    let tells = advances.0 in
-    let s = sizes_of d in
-    let size : length (capacity_of d.store.units) < 2 ^ 16 = omega arith in
-    let none : ListsNone s e (Device out) = subst (λ (b : List ℕ). ListsNone s e (Device b)) (sym tells.sent)
-    (data_lists_none s e (flat task ready.only.come) (map waiting_of others) task.lun task.tag task.sent (capacity_of d.store.units) (omega (arith, tells.none_sent)) size (tasks_at d task others first e at ready)
-    (subst IsNoList (sym tells.command) (λ s task piece p. refl))) in
-    let command : rest.command ≡ Capacity = ap (λ (t : Task). t.command) tells.task_is ∙ tells.command in
-    subst (λ (r : Stepped). EntriesStand now (followed_by e (events_of (group_of r out)))) (sym leaves.1)
-    (quiet_entries d now rest others out e none (λ s e. subst (IsStale s e rest) (sym command) tt) (ap (λ (z : StoreState). z.pages) advances.1) leaves.0 same shape stand)
-stepped_entries d now task others (Asked rest) result out first e was queue units goes few advances leaves same shape at stand =
-    let asks = advances.1 in
-    let is = is_written task.command task.asked asks.more in
-    let none : ListsNone (sizes_of d) e (Device out) = subst (λ (b : List ℕ). ListsNone (sizes_of d) e (Device b)) (sym asks.sent) (transfer_lists_none (sizes_of d) e task.lun task.tag task.asked advances.0) in
-    let command : rest.command ≡ Write is.0 is.1 = ap (λ (t : Task). t.command) asks.task_is ∙ is.2 in
-    subst (λ (r : Stepped). EntriesStand now (followed_by e (events_of (group_of r out)))) (sym leaves.1)
-    (quiet_entries d now rest others out e none (λ s e. subst (IsStale s e rest) (sym command) tt) (ap (λ (z : StoreState). z.pages) advances.2) leaves.0 same shape stand)
-stepped_entries d now task others (Programmed rest) result out first e was queue units goes few advances leaves same shape at stand =
-    let ready = ready_of d task others first e at was queue units goes in
-    let programs = advances.1 in
+    let now_fresh : Fresh (first_listed (limits_of d.shape) task.command) = subst Fresh (sym from)
+    (honoured_listed s d.store.pages e (head_in turn) (others_in turn) lists.read_buffer.0 lists.read_buffer.1 lists.read_buffer.2 ((count + 7) / 8) count (tasks_at turn) turn.few is whole
+    (omega (arith, lists.more, ok.accepted.fits, ok.accepted.expected_fits)) (subst Few from few_bytes) fresh) in
+    rw (lists.sent) now_fresh
+
+-- what is sent tries no entry, and the task that goes on has tried none
+untried_sent : (turn : Turn) (what : Transfer) (rest : Task) (out : List ℕ) → Transfers (limits_of turn.old.shape) turn.old.store what turn.task rest out → (s : Sizes) (e : History)
+    → TriedStale s e (rest ∷ turn.others)
+untried_sent turn LookedUp rest out shows s e = let untried : rest.tried ≡ false = ap (λ (t : Task). t.tried) shows.sends.task_is in rw untried tt
+untried_sent turn ByEntry rest out finds s e = let untried : rest.tried ≡ false = ap (λ (t : Task). t.tried) finds.sends.task_is in rw untried tt
+untried_sent turn EntryList rest out lists s e =
+    let command = ap (λ (t : Task). t.command) lists.1.task_is ∙ lists.1.read_buffer.3 in
+    untried_task s e rest turn.others (rest ∷ turn.others) refl (λ e. subst (IsStale s e rest) (sym command) tt)
+untried_sent turn UnitCapacity rest out tells s e =
+    let command = ap (λ (t : Task). t.command) tells.task_is ∙ tells.command in
+    untried_task s e rest turn.others (rest ∷ turn.others) refl (λ e. subst (IsStale s e rest) (sym command) tt)
+untried_sent turn Ready rest out asks s e =
+    let command = ap (λ (t : Task). t.command) asks.1.task_is ∙ (is_written turn.task.command turn.task.asked asks.1.more).2 in
+    untried_task s e rest turn.others (rest ∷ turn.others) refl (λ e. subst (IsStale s e rest) (sym command) tt)
+
+sent_entries : (turn : Turn) (what : Transfer) (rest : Task) (out : List ℕ) → Transfers (limits_of turn.old.shape) turn.old.store what turn.task rest out
+    → turn.new.store.pages ≡ turn.old.store.pages
+    → turn.new.tasks ≡ rest ∷ turn.others → EntriesStand turn.old turn.history → EntriesStand turn.new (turn.history ▹ Device out)
+sent_entries turn what rest out sends pages head stand =
+    let s = sizes_of turn.old in
+    let fresh : FreshHonoured s turn.old.store.pages (turn.history ▹ Device out) = elim (sent_lists_none turn what rest out sends) [
+      | inl lists ↦ honoured_sent turn rest lists.0 out lists.1 stand.fresh
+      | inr none ↦ honoured_stays s turn.old.store.pages turn.history (Device out) none stand.fresh
+    ] in
+    entries_now turn.old turn.new (turn.history ▹ Device out) turn.same turn.shape (rw pages fresh) (rw head (untried_sent turn what rest out sends s (turn.history ▹ Device out)))
+
+-- after an entry was tried in vain
+missed_entries : (turn : Turn) (rest : Task) → Misses turn.old.store turn.task rest → turn.new.store.pages ≡ turn.old.store.pages → turn.new.tasks ≡ rest ∷ turn.others
+    → EntriesStand turn.old turn.history → EntriesStand turn.new turn.history
+missed_entries turn rest misses pages head stand =
+    let d = turn.old in
+    let task = turn.task in
+    let ready = turn.ready in
+    let tries = tries_of (limits_of d.shape) task.command task misses.tries in
+    let moves = reads d.store.luns (limits_of d.shape) task ready.ok tries.reads in
+    let inside : first_block task.command < d.shape.units = omega (arith, moves.within, moves.gives, tries.some, ready.ok.accepted.given) in
+    let Refused : ℕ → Type 0 = λ n. let p : Place = record { lun = task.lun; lba = n } in ¬ IsHonoured d.store.pages p (entry_given task.command) in
+    let refused : Refused (first_block task.command) = subst Refused (omega arith) misses.refused in
+    let stale : IsStale (sizes_of d) turn.history task task.command = missed_stale (sizes_of d) d.store.pages turn.history task task.command stand.fresh ready.ok.accepted.lun inside refused in
+    let now_task : Task = record task { tried = true } in
+    let head_is : turn.new.tasks ≡ now_task ∷ turn.others = head ∙ ap (λ (r : Task). r ∷ turn.others) misses.task_is in
+    entries_now d turn.new turn.history turn.same turn.shape (rw pages (stand.fresh)) (rw head_is (same_stale task.command stale))
+  where
+    same_stale : (command : Cdb) → IsStale (sizes_of turn.old) turn.history turn.task command → IsStale (sizes_of turn.old) turn.history (record turn.task { tried = true }) command
+    same_stale (HpbRead lba entry n id) stale = stale
+    same_stale _ stale = tt
+
+-- after a block was programmed
+programmed_entries : (turn : Turn) (rest : Task) (start : ℕ) → Programs turn.old.store turn.new.store turn.old.held turn.task rest start → turn.new.tasks ≡ rest ∷ turn.others
+    → EntriesStand turn.old turn.history → EntriesStand turn.new turn.history
+programmed_entries turn rest start programs head stand =
+    let d = turn.old in
+    let task = turn.task in
+    let ready = turn.ready in
     let s = sizes_of d in
     let k = task.programmed in
-    let is = is_written task.command (4096 * k) (omega (arith, programs.more, ready.ok.come, ready.ok.asked)) in
+    let is = is_written task.command (4096 * k) (omega (arith, programs.more, ready.ok.within.come, ready.ok.within.asked)) in
     let taken : bytes_taken task.command ≡ 4096 * is.1 = ap bytes_taken is.2 in
-    let below : k < is.1 = omega (arith, programs.more, ready.ok.come, ready.ok.asked, taken) in
+    let below : k < is.1 = omega (arith, programs.more, ready.ok.within.come, ready.ok.within.asked, taken) in
     let come : 0 < length ready.only.come = omega (arith, programs.more, ready.only.counted) in
-    let bytes = slice_range d.held advances.0 (advances.0 + 4096) in
-    let program : ProgramsBlock d.store.pages (record { lun = task.lun; lba = is.0 + k }) bytes now.store.pages =
-    subst (λ (lba : ℕ). let p : Rattle.flash_pages.specs.Place.Place = record { lun = task.lun; lba = lba + k } in ProgramsBlock d.store.pages p bytes now.store.pages) (ap first_block is.2) programs.program in
-    let fresh = honoured_programmed s d.store.pages now.store.pages e (flat task ready.only.come) (map waiting_of others) is.0 is.1 k bytes (tasks_at d task others first e at ready) is.2 below come program stand.fresh in
+    let bytes = slice_range d.held start (start + 4096) in
+    let Programmed : ℕ → Type 0 = λ lba. let p : Place = record { lun = task.lun; lba = lba + k } in ProgramsBlock d.store.pages p bytes turn.new.store.pages in
+    let program : Programmed is.0 = subst Programmed (ap first_block is.2) programs.program in
+    let fresh = honoured_programmed s d.store.pages turn.new.store.pages turn.history (head_in turn) (others_in turn) is.0 is.1 k bytes (tasks_at turn) is.2 below come program stand.fresh in
     let command : rest.command ≡ Write is.0 is.1 = ap (λ (t : Task). t.command) programs.task_is ∙ is.2 in
-    subst (λ (r : Stepped). EntriesStand now (followed_by e (events_of (group_of r out)))) (sym leaves.1)
-    (entries_now d now e same shape fresh (untried_task s e rest others now.tasks leaves.0 (λ e. subst (IsStale s e rest) (sym command) tt)))
-stepped_entries d now task others (Ended reply) result out first e was queue units goes few advances leaves same shape at stand =
-    let q = subst (IsQueue d.store.luns (limits_of d.shape) d.held) was queue in
-    subst (λ (r : Stepped). EntriesStand now (followed_by e (events_of (group_of r out)))) (sym leaves.2)
-    (ended_entries d now others reply out e q.2 leaves.3 advances.1 leaves.0 same shape stand.fresh)
-stepped_entries d now task others (Failed op reply) result out first e was queue units goes few advances leaves same shape at stand =
-    let q = subst (IsQueue d.store.luns (limits_of d.shape) d.held) was queue in
-    subst (λ (r : Stepped). EntriesStand now (followed_by e (events_of (group_of r out)))) (sym leaves.2)
-    (ended_entries d now others reply out (e ▹ CallFailed op) q.2 leaves.3 advances.1 leaves.0 same shape
-    (honoured_stays (sizes_of d) d.store.pages e (CallFailed op) (λ p. refl) stand.fresh))
+    entries_now d turn.new turn.history turn.same turn.shape fresh
+    (untried_task s turn.history rest turn.others turn.new.tasks head (λ e. subst (IsStale s e rest) (sym command) tt))
+
+-- after the first task ended
+ended_entries : (turn : Turn) (reply : Reply) (out : List ℕ) (e : History) → out ≡ upiu_out (reply_upiu reply) → turn.new.store.pages ≡ turn.old.store.pages → turn.new.tasks ≡ turn.others
+    → FreshHonoured (sizes_of turn.old) turn.old.store.pages e → EntriesStand turn.new (e ▹ Device out)
+ended_entries turn reply out e sent pages left fresh =
+    let s = sizes_of turn.old in
+    let none : ListsNone s e (Device out) = subst (λ (b : List ℕ). ListsNone s e (Device b)) (sym sent) (reply_lists_none s e reply) in
+    entries_now turn.old turn.new (e ▹ Device out) turn.same turn.shape
+    (rw pages (honoured_stays s turn.old.store.pages e (Device out) none fresh))
+    (waiting_untried turn.old.store.luns (limits_of turn.old.shape) s (e ▹ Device out) turn.others turn.new.tasks left turn.ready.waiting)
+
+-- what a step leaves
+pub stepped_entries : (turn : Turn) (progress : Progress) (result : Stepped) (out : List ℕ)
+    → Advances (limits_of turn.old.shape) turn.old.store turn.new.store turn.old.held turn.new.held turn.task progress out
+    → Leaves progress turn.others turn.new.tasks turn.new.held result out → EntriesStand turn.old turn.history → EntriesStand turn.new (followed_by turn.history (events_of (group_of result out)))
+stepped_entries turn (Sends what rest) result out advances leaves stand = rw (leaves.1) (sent_entries turn what rest out advances.0 advances.1 leaves.0 stand)
+stepped_entries turn (Silent Missed rest) result out advances leaves stand = rw (leaves.1) (missed_entries turn rest advances.0.0 advances.0.1 leaves.0 stand)
+stepped_entries turn (Silent Programmed rest) result out advances leaves stand = rw (leaves.1) (programmed_entries turn rest advances.0.0 advances.0.1 leaves.0 stand)
+stepped_entries turn (Ended reply) result out advances leaves stand = rw (leaves.2) (ended_entries turn reply out turn.history leaves.3 advances.1 leaves.0 stand.fresh)
+stepped_entries turn (Failed op reply) result out advances leaves stand =
+    rw (leaves.2) (ended_entries turn reply out (turn.history ▹ CallFailed op) leaves.3 advances.1 leaves.0
+    (honoured_stays (sizes_of turn.old) turn.old.store.pages turn.history (CallFailed op) (λ p. refl) stand.fresh))
 
 -- the bytes of the host list nothing
 after_host : (d : DeviceState) (bytes : List ℕ) (e : History) → EntriesStand d e → EntriesStand d (e ▹ Host bytes)
@@ -427,15 +420,7 @@ after_answer d out e none stand = record {
 
 stale_of : (s : Sizes) (e : History) (task : Task) (come : ℕ) (command : Cdb) → IsStale s e task command → IsStale s e (record task { come = come }) command
 stale_of s e task come (HpbRead lba entry n id) stale = stale
-stale_of s e task come TestReady stale = tt
-stale_of s e task come (Read lba n) stale = tt
-stale_of s e task come (Write lba n) stale = tt
-stale_of s e task come Capacity stale = tt
-stale_of s e task come (Sync lba n) stale = tt
-stale_of s e task come (ReadBuffer region sub len) stale = tt
-stale_of s e task come (Prefetch lba id len) stale = tt
-stale_of s e task come (InactOne region) stale = tt
-stale_of s e task come InactAll stale = tt
+stale_of s e task come _ stale = tt
 
 more_tried : (s : Sizes) (e : History) (tasks : List Task) (task : Task) → task.tried ≡ false → TriedStale s e tasks → TriedStale s e (tasks ++ task ∷ [])
 more_tried s e [] task untried stale = rw untried tt
@@ -445,7 +430,8 @@ same_store : (d now : DeviceState) → now.store ≡ d.store → IsSameStore d.s
 same_store d now is = record { geometry = ap (λ (z : StoreState). z.geometry) is; luns = ap (λ (z : StoreState). z.luns) is; units = ap (λ (z : StoreState). z.units) is }
 
 -- a command that is kept, and data that come, leave the entries as they were
-pub kept_entries : (d now : DeviceState) (bytes : List ℕ) (e : History) → Keeps d now bytes ⊎ TakesData d now (upiu_at bytes).segment → now.store ≡ d.store → now.shape ≡ d.shape → EntriesStand d e → EntriesStand now (e ▹ Host bytes)
+pub kept_entries : (d now : DeviceState) (bytes : List ℕ) (e : History) → Keeps d now bytes ⊎ TakesData d now (upiu_at bytes).segment → now.store ≡ d.store → now.shape ≡ d.shape
+    → EntriesStand d e → EntriesStand now (e ▹ Host bytes)
 kept_entries d now bytes e receives store shape stand =
     let host = after_host d bytes e stand in
     let pages : now.store.pages ≡ d.store.pages = ap (λ (z : StoreState). z.pages) store in
@@ -461,12 +447,14 @@ kept_entries d now bytes e receives store shape stand =
     ]
 
 -- what is answered at once ends no task
-pub answered_entries : (d : DeviceState) (bytes : List ℕ) (reply : Reply) (out : List ℕ) (e : History) → out ≡ upiu_out (reply_upiu reply) → EntriesStand d e → EntriesStand d (e ▹ Host bytes ▹ Device out)
+pub answered_entries : (d : DeviceState) (bytes : List ℕ) (reply : Reply) (out : List ℕ) (e : History) → out ≡ upiu_out (reply_upiu reply) → EntriesStand d e
+    → EntriesStand d (e ▹ Host bytes ▹ Device out)
 answered_entries d bytes reply out e sent stand =
     after_answer d out (e ▹ Host bytes) (subst (λ (b : List ℕ). ListsNone (sizes_of d) (e ▹ Host bytes) (Device b)) (sym sent) (reply_lists_none (sizes_of d) (e ▹ Host bytes) reply)) (after_host d bytes e stand)
 
 -- an answer that ends the first task
-pub ending_entries : (d now : DeviceState) (luns : ℕ) (lim : Limits) (bytes : List ℕ) (reply : Reply) (out : List ℕ) (e : History) → IsQueue luns lim d.held d.tasks → EndsHead d now out → out ≡ upiu_out (reply_upiu reply)
+pub ending_entries : (d now : DeviceState) (luns : ℕ) (lim : Limits) (bytes : List ℕ) (reply : Reply) (out : List ℕ) (e : History) → IsQueue luns lim d.held d.tasks → EndsHead d now out
+    → out ≡ upiu_out (reply_upiu reply)
     → now.store ≡ d.store → now.shape ≡ d.shape → EntriesStand d e → EntriesStand now (e ▹ Host bytes ▹ Device out)
 ending_entries d now luns lim bytes reply out e queue ends sent store shape stand =
     let host = answered_entries d bytes reply out e sent stand in
@@ -485,3 +473,14 @@ begins_entries device none = record {
     and_false : (a : Bool) → (a && false) ≡ false
     and_false true = refl
     and_false false = refl
+
+-- the entry that a DATA IN of the first task lists
+pub head_listed : (s : Sizes) (e : History) (task : Waiting) (others : List Waiting) (bytes : List ℕ) (p : Place) (y : ℕ)
+    → task.sent < 2 ^ 32 → length bytes < 2 ^ 16 → tasks_after s e ≡ task ∷ others
+    → listed s (tasks_after s e) (Device (upiu_out (data_upiu DataIn task.lun task.tag task.sent bytes))) p ≡ Some y → listed_by s task task.command bytes p ≡ Some y
+head_listed s e task others bytes p y offset_fits bytes_fit is at =
+    by_tag (has_tag task.tag task) (listed_by s task task.command bytes p) (sym (data_listed s e task others task.lun task.tag task.sent bytes p offset_fits bytes_fit is) ∙ at)
+  where
+    by_tag : (b : Bool) (o : Option ℕ) → (if b then o else None) ≡ Some y → o ≡ Some y
+    by_tag true o at = at
+    by_tag false o at = cc

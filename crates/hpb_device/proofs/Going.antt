@@ -6,6 +6,7 @@ use Rattle.std.proofs.lemmas.Bool.Decides.{nat_tests}
 use Rattle.std.specs.Prelude.{sum_by, if◌then◌else◌}
 use Rattle.std.proofs.lemmas.List.Sums.{sum_by-cons, sum_by_push}
 use Rattle.flash_pages.specs.declared.chip.ChipOp.{ChipOp}
+use Rattle.hpb_outside.specs.Faults.{Rose}
 use Rattle.hpb_cdb.specs.declared.cdb.Cdb.{Cdb}
 use Rattle.hpb_cdb.specs.declared.limits.Limits.{Limits}
 use Rattle.flash_pages.specs.declared.chip.Geometry.{Geometry}
@@ -20,55 +21,55 @@ use Rattle.hpb_device.specs.declared.reply.Reply.{Reply}
 use Rattle.hpb_device.specs.declared.reply.Reply.TheVariants.{Good, Check}
 use Rattle.hpb_device.specs.declared.reply.Cause.{Cause}
 use Rattle.hpb_device.specs.declared.reply.Cause.TheVariants.{ReadFailed, WriteFailed, UnknownOpcode, OutOfRange, InvalidField, NoSuchUnit, NoRoom, DataNotAsked}
-use Rattle.flat_unit.specs.Causes.{FailuresWithin, sense_code}
-use Rattle.flat_unit.specs.History.{followed_by}
-use Rattle.flat_unit.specs.Queue.{at_rest}
+use Rattle.flat_unit.specs.Causes.{FailuresAre, failures, sense_code}
+use Rattle.flat_unit.specs.History.{History, followed_by}
+use Rattle.flat_unit.specs.Queue.{at_rest, tasks_after}
 use Rattle.flat_unit.specs.Replays.{events_of, has_asked, enough, bound}
-use Rattle.flat_unit.specs.Stands.{Stands}
+use Rattle.flat_unit.specs.Stands.{First, Stands}
 use Rattle.flat_unit.specs.Task.{Task as Waiting}
 use Rattle.flat_unit.proofs.Steps.{stands_begun}
+use Rattle.flash_pages.specs.Chip.{erased_count}
 use Rattle.flash_pages.specs.Unit.{unit_of, next_seq}
 use Rattle.hpb_device.specs.declared.advance.Progress.{Progress}
-use Rattle.hpb_device.specs.declared.advance.Progress.TheVariants.{Shown, Found, Missed, Listed, Told, Asked, Programmed, Ended, Failed}
+use Rattle.hpb_device.specs.declared.advance.Progress.TheVariants.{Sends, Silent, Ended, Failed}
+use Rattle.hpb_device.specs.declared.advance.Internal.TheVariants.{Missed, Programmed}
 use Rattle.hpb_device.specs.declared.device.Stepped.{Stepped}
 use Rattle.hpb_device.specs.declared.task.Task.{Task}
-use Rattle.hpb_device.specs.Advance.{Advances, capacity_of, entries_of, failure_of, first_listed}
+use Rattle.hpb_device.specs.Advance.{Advances, failure_of}
 use Rattle.hpb_device.specs.Limits.{limits_of}
 use Rattle.hpb_device.specs.Calls.{GoesOn, Leaves, stepped}
 use Rattle.hpb_device.specs.Keeps.{KeepsTasks, IsTaskOf, waiting_of}
 use Rattle.hpb_device.specs.Standing.{DeviceStands, first_of, group_of, kept_of, programmed_of, sizes_of}
 use Rattle.hpb_device.specs.State.{DeviceState, AreAtRest, AtRest, steps_left}
+use Rattle.hpb_device.specs.StoreCounts.{CountsFault}
 use Rattle.hpb_device.specs.Task.{IsTaskOk, bytes_given, bytes_taken, steps_of, tries_entry, tries_entry_of}
 use Rattle.hpb_device.proofs.Leaving.{some_left}
-use Rattle.hpb_device.proofs.Stepping.{is_written, sizes_same}
+use Rattle.hpb_device.proofs.StepStands.{is_written, sizes_same}
+use Rattle.hpb_device.proofs.Transfers.{transfer_is}
 
--- a call failed only where the count of faults rose
-fails_by : (old new : DeviceState) (task : Task) (others : List Task) (progress : Progress) (result : Stepped) (out : List ℕ) → old.store.faults ≤ new.store.faults
-    → Advances (limits_of old.shape) old.store new.store old.held new.held task progress out → Leaves progress others new.tasks new.held result out
-    → FailuresWithin old.store.faults new.store.faults (followed_by [] (events_of (group_of result out)))
-fails_by old new task others (Shown rest) result out later advances leaves = rw (leaves.1) (omega (arith, later))
-fails_by old new task others (Found rest) result out later advances leaves = rw (leaves.1) (omega (arith, later))
-fails_by old new task others (Missed rest) result out later advances leaves = rw (leaves.1) (omega (arith, later))
-fails_by old new task others (Listed rest) result out later advances leaves = rw (leaves.1) (omega (arith, later))
-fails_by old new task others (Told rest) result out later advances leaves = rw (leaves.1) (omega (arith, later))
-fails_by old new task others (Asked rest) result out later advances leaves = rw (leaves.1) (omega (arith, later))
-fails_by old new task others (Programmed rest) result out later advances leaves = rw (leaves.1) (omega (arith, later))
-fails_by old new task others (Ended reply) result out later advances leaves = rw (leaves.2) (omega (arith, later))
-fails_by old new task others (Failed op reply) result out later advances leaves = rw (leaves.2) (omega (arith, advances.0.cause))
+-- the failures that a step tells are those that the count of faults has
+none_failed : (before now : ℕ) (e : History) → failures e ≡ 0 → now ≡ before → FailuresAre before now e
+none_failed before now e none same = record { least = omega (arith, none, same); most = omega (arith, none, same) }
+
+one_failed : (before now : ℕ) (e : History) → failures e ≡ 1 → Rose before now → now ≤ before + 1 → FailuresAre before now e
+one_failed before now e one rose once = record { least = rw one rose; most = omega (arith, one, once) }
+
+fails_by : (before now : ℕ) (progress : Progress) (others tasks : List Task) (held : List ℕ) (result : Stepped) (out : List ℕ) → CountsFault before now progress
+    → Leaves progress others tasks held result out
+    → FailuresAre before now (followed_by [] (events_of (group_of result out)))
+fails_by before now (Sends what rest) others tasks held result out counts leaves = rw (leaves.1) (none_failed before now _ refl counts)
+fails_by before now (Silent what rest) others tasks held result out counts leaves = rw (leaves.1) (none_failed before now _ refl counts)
+fails_by before now (Ended reply) others tasks held result out counts leaves = rw (leaves.2) (none_failed before now _ refl counts)
+fails_by before now (Failed op reply) others tasks held result out counts leaves = rw (leaves.2) (one_failed before now _ refl counts.0 counts.1)
 
 pub going_fails : (old new : DeviceState) (result : Stepped) (out : List ℕ) → GoesOn old new result out
-    → FailuresWithin old.store.faults new.store.faults (followed_by [] (events_of (group_of result out)))
-going_fails old new result out goes = fails_by old new goes.task goes.others goes.progress result out goes.calls.later goes.advances goes.leaves
+    → FailuresAre old.store.faults new.store.faults (followed_by [] (events_of (group_of result out)))
+going_fails old new result out goes = fails_by old.store.faults new.store.faults goes.progress goes.others new.tasks new.held result out goes.calls.faults goes.leaves
 
 -- no block is moved
 moves_by : (progress : Progress) (others tasks : List Task) (held : List ℕ) (result : Stepped) (out : List ℕ) → Leaves progress others tasks held result out → result.moved ≡ None
-moves_by (Shown rest) others tasks held result out leaves = ap (λ (r : Stepped). r.moved) leaves.1
-moves_by (Found rest) others tasks held result out leaves = ap (λ (r : Stepped). r.moved) leaves.1
-moves_by (Missed rest) others tasks held result out leaves = ap (λ (r : Stepped). r.moved) leaves.1
-moves_by (Listed rest) others tasks held result out leaves = ap (λ (r : Stepped). r.moved) leaves.1
-moves_by (Told rest) others tasks held result out leaves = ap (λ (r : Stepped). r.moved) leaves.1
-moves_by (Asked rest) others tasks held result out leaves = ap (λ (r : Stepped). r.moved) leaves.1
-moves_by (Programmed rest) others tasks held result out leaves = ap (λ (r : Stepped). r.moved) leaves.1
+moves_by (Sends what rest) others tasks held result out leaves = ap (λ (r : Stepped). r.moved) leaves.1
+moves_by (Silent what rest) others tasks held result out leaves = ap (λ (r : Stepped). r.moved) leaves.1
 moves_by (Ended reply) others tasks held result out leaves = ap (λ (r : Stepped). r.moved) leaves.2
 moves_by (Failed op reply) others tasks held result out leaves = ap (λ (r : Stepped). r.moved) leaves.2
 
@@ -80,30 +81,30 @@ pub going_sizes : (old new : DeviceState) (result : Stepped) (out : List ℕ) �
 going_sizes old new result out goes shape = sym (sizes_same old new goes.same shape)
 
 -- a step that sends nothing programs a block of a write that has asked for data, or tries an entry for the first time
-has_asked_data : (held : List ℕ) (luns : ℕ) (lim : Limits) (kept : Task) (task : Waiting) (others : List Waiting) → IsTaskOf held kept task → IsTaskOk luns lim kept → 4096 * kept.programmed < kept.come → has_asked (task ∷ others) ≡ true
+has_asked_data : (held : List ℕ) (luns : ℕ) (lim : Limits) (kept : Task) (task : Waiting) (others : List Waiting) → IsTaskOf held kept task → IsTaskOk luns lim kept
+    → 4096 * kept.programmed < kept.come → has_asked (task ∷ others) ≡ true
 has_asked_data held luns lim kept task others at ok more =
-    let write = is_written kept.command kept.programmed (omega (arith, ok.asked, ok.come, more)) in
-    let asked : nat_lt 0 kept.asked ≡ true = grind (arith, nat_tests, ok.come, more) in
+    let write = is_written kept.command kept.programmed (omega (arith, ok.within.asked, ok.within.come, more)) in
+    let asked : nat_lt 0 kept.asked ≡ true = grind (arith, nat_tests, ok.within.come, more) in
     rw (at.command, write.2, at.asked, asked) refl
 
 pub sent_or_silent : (result : Stepped) (failed : Option ChipOp) → result ≡ stepped failed true → result.sent ≡ false → ⊥
 sent_or_silent result failed is silent = false≢true (sym silent ∙ ap (λ (r : Stepped). r.sent) is)
 
-silent_by : (old new : DeviceState) (task : Task) (others : List Task) (progress : Progress) (result : Stepped) (out : List ℕ) (tasks : List Waiting) → IsTaskOk old.store.luns (limits_of old.shape) task
-    → Advances (limits_of old.shape) old.store new.store old.held new.held task progress out → Leaves progress others new.tasks new.held result out → KeepsTasks (task ∷ others) old.held tasks → result.sent ≡ false
+silent_by : (old new : DeviceState) (task : Task) (others : List Task) (progress : Progress) (result : Stepped) (out : List ℕ) (tasks : List Waiting)
+    → IsTaskOk old.store.luns (limits_of old.shape) task
+    → Advances (limits_of old.shape) old.store new.store old.held new.held task progress out → Leaves progress others new.tasks new.held result out → KeepsTasks (task ∷ others) old.held tasks
+    → result.sent ≡ false
     → (has_asked tasks ≡ true) ⊎ (tries_entry task ≡ true)
-silent_by old new task others (Shown rest) result out tasks ok advances leaves keeps silent = absurd (sent_or_silent result _ leaves.1 silent)
-silent_by old new task others (Found rest) result out tasks ok advances leaves keeps silent = absurd (sent_or_silent result _ leaves.1 silent)
-silent_by old new task others (Missed rest) result out tasks ok advances leaves keeps silent = inr advances.0.tries
-silent_by old new task others (Listed rest) result out tasks ok advances leaves keeps silent = absurd (sent_or_silent result _ leaves.1 silent)
-silent_by old new task others (Told rest) result out tasks ok advances leaves keeps silent = absurd (sent_or_silent result _ leaves.1 silent)
-silent_by old new task others (Asked rest) result out tasks ok advances leaves keeps silent = absurd (sent_or_silent result _ leaves.1 silent)
-silent_by old new task others (Programmed rest) result out tasks ok advances leaves keeps silent =
-    inl (subst (λ (ts : List Waiting). has_asked ts ≡ true) (sym keeps.2) (has_asked_data old.held old.store.luns (limits_of old.shape) task keeps.0 (map waiting_of others) keeps.1 ok advances.1.more))
+silent_by old new task others (Sends what rest) result out tasks ok advances leaves keeps silent = absurd (sent_or_silent result _ leaves.1 silent)
+silent_by old new task others (Silent Missed rest) result out tasks ok advances leaves keeps silent = inr advances.0.0.tries
+silent_by old new task others (Silent Programmed rest) result out tasks ok advances leaves keeps silent =
+    inl (subst (λ (ts : List Waiting). has_asked ts ≡ true) (sym keeps.2) (has_asked_data old.held old.store.luns (limits_of old.shape) task keeps.0 (map waiting_of others) keeps.1 ok advances.0.1.more))
 silent_by old new task others (Ended reply) result out tasks ok advances leaves keeps silent = absurd (sent_or_silent result _ leaves.2 silent)
 silent_by old new task others (Failed op reply) result out tasks ok advances leaves keeps silent = absurd (sent_or_silent result _ leaves.2 silent)
 
-pub going_is_silent : (old new : DeviceState) (result : Stepped) (out : List ℕ) (tasks : List Waiting) → (goes : GoesOn old new result out) → KeepsTasks old.tasks old.held tasks → result.sent ≡ false
+pub going_is_silent : (old new : DeviceState) (result : Stepped) (out : List ℕ) (tasks : List Waiting) → (goes : GoesOn old new result out) → KeepsTasks old.tasks old.held tasks
+    → result.sent ≡ false
     → (has_asked tasks ≡ true) ⊎ (tries_entry goes.task ≡ true)
 going_is_silent old new result out tasks goes keeps silent =
     silent_by old new goes.task goes.others goes.progress result out tasks goes.ok goes.advances goes.leaves (subst (λ (ts : List Task). KeepsTasks ts old.held tasks) goes.was keeps) silent
@@ -162,9 +163,7 @@ few_for luns lim geometry task (HpbRead lba entry n id) some = one_try (task.sen
         omega (arith, few, some_block)
 few_for luns lim geometry task (ReadBuffer number part len) some =
     omega arith
-few_for luns lim geometry task (Prefetch lba id len) some = omega arith
-few_for luns lim geometry task (InactOne number) some = omega arith
-few_for luns lim geometry task InactAll some = omega arith
+few_for luns lim geometry task _ some = omega arith
 
 pub few_of : (device : DeviceState) (task : Task) → 1 ≤ device.store.geometry.pages → steps_of (limits_of device.shape) task ≤ bound (sizes_of device) task.command
 few_of device task some = few_for device.store.luns (limits_of device.shape) device.store.geometry task task.command some
@@ -197,24 +196,30 @@ few_by device (head ∷ others) held tasks some keeps =
     let first : f head ≤ g keeps.0 = subst (λ (n : ℕ). f head ≤ n) (sym same) (few_of device head some) in
     subst (λ (ts : List Waiting). sum_by f (head ∷ others) ≤ sum_by g ts) (sym keeps.2) (sums_first f g head others keeps.0 (λ task. few_of device task some) first)
 
-pub few_left : (device : DeviceState) (tasks : List Waiting) → 1 ≤ device.store.geometry.pages → KeepsTasks device.tasks device.held tasks → steps_left device ≤ enough (sizes_of device) tasks
-few_left device tasks some keeps = let few = few_by device device.tasks device.held tasks some keeps in omega (arith, few)
+pub few_left : (device : DeviceState) (first : First) (e : History) → 1 ≤ device.store.geometry.pages → DeviceStands device first e
+    → steps_left device ≤ enough (sizes_of device) (tasks_after (sizes_of device) e)
+few_left device first e some at =
+    let few = few_by device device.tasks device.held at.tasks some at.keeps in
+    subst (λ (ts : List Waiting). steps_left device ≤ enough (sizes_of device) ts) (sym at.stands.keeps) (omega (arith, few))
 
 -- a command that is kept adds at most its bound
-pub keeps_left : (device : DeviceState) (task : Task) → 1 ≤ device.store.geometry.pages → sum_by (steps_of (limits_of device.shape)) (device.tasks ++ task ∷ []) ≤ steps_left device + bound (sizes_of device) task.command
+pub keeps_left : (device : DeviceState) (task : Task) → 1 ≤ device.store.geometry.pages
+    → sum_by (steps_of (limits_of device.shape)) (device.tasks ++ task ∷ []) ≤ steps_left device + bound (sizes_of device) task.command
 keeps_left device task some =
     let few = few_of device task some in
     let more = sum_by_push (steps_of (limits_of device.shape)) device.tasks task in
     omega (arith, few, more)
 
--- a device without a task stands at no events, over the unit that its chip has
-pub begins_standing : (device : DeviceState) → device.tasks ≡ []
+-- a device without a task that has erased nothing stands at no events, over the unit that its chip has
+pub begins_standing : (device : DeviceState) → device.tasks ≡ [] → device.counts.erased ≡ 0
     → DeviceStands device (first_of device) []
-begins_standing device none = record {
+begins_standing device none unerased = record {
   tasks = [];
+  erases = 0;
   keeps = subst (λ (ts : List Task). KeepsTasks ts device.held []) (sym none) refl;
-  stands = subst (λ (ts : List Task). Stands (sizes_of device) (first_of device) (record (kept_of device []) { programmed = programmed_of ts }) []) (sym none)
-      (stands_begun (sizes_of device) (unit_of device.store.luns device.store.units device.store.pages) (next_seq device.store.pages));
+  counted = unerased;
+  stands = subst (λ (ts : List Task). Stands (sizes_of device) (first_of device) (record (kept_of 0 device []) { programmed = programmed_of ts }) []) (sym none)
+      (stands_begun (sizes_of device) (unit_of device.store.luns device.store.units device.store.pages) (next_seq device.store.pages) (erased_count device.store.pages));
 }
 
 -- a device that doesn't go on is at rest
@@ -263,27 +268,18 @@ another_code code n is other same = other (some_same (sym is ∙ same))
 
 failed_code : (command : Cdb) → (cause_sense (failure_of command)).asc ≡ 0x44 → ⊥
 failed_code (Read lba n) same = absurd (omega (arith, same))
-failed_code TestReady same = absurd (omega (arith, same))
-failed_code (Write lba n) same = absurd (omega (arith, same))
-failed_code Capacity same = absurd (omega (arith, same))
-failed_code (Sync lba n) same = absurd (omega (arith, same))
 failed_code (HpbRead lba entry n id) same = absurd (omega (arith, same))
-failed_code (ReadBuffer region sub len) same = absurd (omega (arith, same))
-failed_code (Prefetch lba id len) same = absurd (omega (arith, same))
-failed_code (InactOne region) same = absurd (omega (arith, same))
-failed_code InactAll same = absurd (omega (arith, same))
+failed_code _ same = absurd (omega (arith, same))
 
 -- the code of the UPIU of a step, if it has one, is of a failed call or of a lack of pages
-tells_by : (old new : DeviceState) (task : Task) (others : List Task) (progress : Progress) (result : Stepped) (out : List ℕ) → Advances (limits_of old.shape) old.store new.store old.held new.held task progress out → Leaves progress others new.tasks new.held result out
+tells_by : (old new : DeviceState) (task : Task) (others : List Task) (progress : Progress) (result : Stepped) (out : List ℕ)
+    → Advances (limits_of old.shape) old.store new.store old.held new.held task progress out → Leaves progress others new.tasks new.held result out
     → result.sent ≡ true → ¬ (sense_code out ≡ Some 0x44)
-tells_by old new task others (Shown rest) result out advances leaves sends = other_code (sense_code out) (ap sense_code advances.0.sends.sent ∙ data_tells_none _ _ _ _)
-tells_by old new task others (Found rest) result out advances leaves sends = other_code (sense_code out) (ap sense_code advances.0.sends.sent ∙ data_tells_none _ _ _ _)
-tells_by old new task others (Missed rest) result out advances leaves sends = absurd (false≢true (sym (ap (λ (r : Stepped). r.sent) leaves.1) ∙ sends))
-tells_by old new task others (Listed rest) result out advances leaves sends =
-    other_code (sense_code out) (ap sense_code advances.1.sent ∙ data_tells_none task.lun task.tag task.sent (take advances.0 (entries_of old.store.pages task.lun (first_listed (limits_of old.shape) task.command + task.sent / 8) ((advances.0 + 7) / 8))))
-tells_by old new task others (Told rest) result out advances leaves sends = other_code (sense_code out) (ap sense_code advances.0.sent ∙ data_tells_none task.lun task.tag task.sent (capacity_of old.store.units))
-tells_by old new task others (Asked rest) result out advances leaves sends = other_code (sense_code out) (ap sense_code advances.1.sent ∙ transfer_tells_none _ _ _ _)
-tells_by old new task others (Programmed rest) result out advances leaves sends = absurd (false≢true (sym (ap (λ (r : Stepped). r.sent) leaves.1) ∙ sends))
+tells_by old new task others (Sends what rest) result out advances leaves sends = elim (transfer_is (limits_of old.shape) old.store what task rest out advances.0) [
+  | inl data_in ↦ other_code (sense_code out) (ap sense_code data_in.1 ∙ data_tells_none task.lun task.tag task.sent data_in.0)
+  | inr ready ↦ other_code (sense_code out) (ap sense_code ready.1 ∙ transfer_tells_none task.lun task.tag task.asked ready.0)
+]
+tells_by old new task others (Silent what rest) result out advances leaves sends = absurd (false≢true (sym (ap (λ (r : Stepped). r.sent) leaves.1) ∙ sends))
 tells_by old new task others (Ended reply) result out advances leaves sends = elim advances.0 [
   | inl good ↦ other_code (sense_code out) (ap sense_code (leaves.3 ∙ ap (λ (r : Reply). upiu_out (reply_upiu r)) good.1) ∙ good_tells_none _ _ _)
   | inr full ↦ another_code (sense_code out) 0x27 (ap sense_code (leaves.3 ∙ ap (λ (r : Reply). upiu_out (reply_upiu r)) full.1) ∙ check_tells _ _ _ NoRoom) (λ same. absurd (omega (arith, same)))

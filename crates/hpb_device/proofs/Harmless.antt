@@ -14,14 +14,15 @@ use Rattle.flat_unit.specs.Reply.{has_tag, command_refusal, refusal_of_cdb, chec
 use Rattle.flat_unit.specs.Senses.{no_unit, bad_field, unknown_opcode, sense_of_fault}
 use Rattle.flat_unit.specs.Sizes.{Sizes}
 use Rattle.flat_unit.specs.Task.{Task as Waiting}
-use Rattle.flat_unit.proofs.Goes.{IsHarmless}
+use Rattle.flat_unit.specs.Harmless.{IsHarmless}
 use Rattle.flat_unit.proofs.Steps.{reject_harmless, response_harmless}
 use Rattle.hpb_device.specs.declared.reply.Reply.{Reply}
 use Rattle.hpb_device.specs.declared.reply.Reply.TheVariants.{NopIn, Reject, Good, TaskSetFull, Check}
 use Rattle.hpb_device.specs.Accept.{IsRejection}
 use Rattle.hpb_device.specs.Reply.{reply_upiu}
 
-either : (P : Upiu → Type 0) (b : Bool) {x y : Option Upiu} → (b ≡ true → (r : Upiu) → x ≡ Some r → P r) → (b ≡ false → (r : Upiu) → y ≡ Some r → P r) → (r : Upiu) → (if b then x else y) ≡ Some r → P r
+either : (P : Upiu → Type 0) (b : Bool) {x y : Option Upiu} → (b ≡ true → (r : Upiu) → x ≡ Some r → P r) → (b ≡ false → (r : Upiu) → y ≡ Some r → P r) → (r : Upiu)
+    → (if b then x else y) ≡ Some r → P r
 either P true f g r is = f refl r is
 either P false f g r is = g refl r is
 

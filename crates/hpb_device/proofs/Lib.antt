@@ -2,8 +2,11 @@ pub mod Commands
 pub mod Entries
 pub mod Going
 pub mod Harmless
+pub mod Hintless
 pub mod Leaving
-pub mod Receiving
+pub mod Listings
+pub mod ReceiveStands
 pub mod Replies
 pub mod Silence
-pub mod Stepping
+pub mod StepStands
+pub mod Transfers

@@ -126,7 +126,8 @@ by_fault luns geometry lim v tasks cause refused free =
     ∙ (ap (refusal_of_cdb s true v) refused.1 ∙ ap (λ (sense : FixedSense). Some (check v.lun v.tag v.first sense)) (sym refused.2))
 
 -- data for the task that waits for them: they are taken, or they end it
-pub by_data : (held : List ℕ) (kept : Task) (task : Waiting) (others : List Waiting) (v : Upiu) (good : Bool) → IsTaskOf held kept task → kept.come < kept.asked → kept.lun ≡ v.lun → kept.tag ≡ v.tag → goes_on kept v ≡ good
+pub by_data : (held : List ℕ) (kept : Task) (task : Waiting) (others : List Waiting) (v : Upiu) (good : Bool) → IsTaskOf held kept task → kept.come < kept.asked → kept.lun ≡ v.lun
+    → kept.tag ≡ v.tag → goes_on kept v ≡ good
     → data_refusal (task ∷ others) v ≡ (elim good [ true ↦ None | false ↦ Some (check v.lun v.tag (kept.expected - kept.come) wrong_data) ])
 by_data held kept task others v good at waits lun tag test =
     let waiting : nat_lt kept.come kept.asked ≡ true = grind (arith, nat_tests) in

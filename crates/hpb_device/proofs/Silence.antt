@@ -17,7 +17,8 @@ use Rattle.flat_unit.specs.Task.{Task as Waiting}
 use Rattle.flat_unit.proofs.Steps.{queue_of}
 use Rattle.flat_unit.proofs.Unfetched.{no_lists}
 use Rattle.hpb_device.specs.declared.advance.Progress.{Progress}
-use Rattle.hpb_device.specs.declared.advance.Progress.TheVariants.{Shown, Found, Missed, Listed, Told, Asked, Programmed, Ended, Failed}
+use Rattle.hpb_device.specs.declared.advance.Progress.TheVariants.{Sends, Silent, Ended, Failed}
+use Rattle.hpb_device.specs.declared.advance.Internal.TheVariants.{Missed, Programmed}
 use Rattle.hpb_device.specs.declared.device.Sent.{Sent}
 use Rattle.hpb_device.specs.declared.device.Sent.TheVariants.{Nothing, Upiu}
 use Rattle.hpb_device.specs.declared.device.Stepped.{Stepped}
@@ -32,23 +33,19 @@ use Rattle.hpb_device.specs.State.{DeviceState}
 use Rattle.hpb_device.specs.Task.{IsTaskOk, WasSilent, tries_entry, tries_entry_of}
 use Rattle.hpb_device.proofs.Commands.{tries_of}
 use Rattle.hpb_device.proofs.Going.{sent_or_silent}
-use Rattle.hpb_device.proofs.Stepping.{given_is, is_written}
+use Rattle.hpb_device.proofs.StepStands.{given_is, is_written}
 
 -- after a step that sent nothing
 silent_after : (old new : DeviceState) (task : Task) (others : List Task) (progress : Progress) (result : Stepped) (out : List ℕ) → IsTaskOk old.store.luns (limits_of old.shape) task
     → Advances (limits_of old.shape) old.store new.store old.held new.held task progress out → Leaves progress others new.tasks new.held result out → result.sent ≡ false → WasSilent new.tasks
-silent_after old new task others (Shown rest) result out ok advances leaves silent = absurd (sent_or_silent result _ leaves.1 silent)
-silent_after old new task others (Found rest) result out ok advances leaves silent = absurd (sent_or_silent result _ leaves.1 silent)
-silent_after old new task others (Missed rest) result out ok advances leaves silent = rw (leaves.0) (inl (ap (λ (t : Task). t.tried) advances.0.task_is))
-silent_after old new task others (Listed rest) result out ok advances leaves silent = absurd (sent_or_silent result _ leaves.1 silent)
-silent_after old new task others (Told rest) result out ok advances leaves silent = absurd (sent_or_silent result _ leaves.1 silent)
-silent_after old new task others (Asked rest) result out ok advances leaves silent = absurd (sent_or_silent result _ leaves.1 silent)
-silent_after old new task others (Programmed rest) result out ok advances leaves silent =
-    let programs = advances.1 in
-    let write = is_written task.command task.programmed (omega (arith, ok.asked, ok.come, programs.more)) in
+silent_after old new task others (Sends what rest) result out ok advances leaves silent = absurd (sent_or_silent result _ leaves.1 silent)
+silent_after old new task others (Silent Missed rest) result out ok advances leaves silent = rw (leaves.0) (inl (ap (λ (t : Task). t.tried) advances.0.0.task_is))
+silent_after old new task others (Silent Programmed rest) result out ok advances leaves silent =
+    let programs = advances.0.1 in
+    let write = is_written task.command task.programmed (omega (arith, ok.within.asked, ok.within.come, programs.more)) in
     let is : is_write rest.command ≡ true = ap (λ (t : Task). is_write t.command) programs.task_is ∙ ap is_write write.2 in
     let asked : rest.asked ≡ task.asked = ap (λ (t : Task). t.asked) programs.task_is in
-    rw (leaves.0) (inr (is, omega (arith, asked, ok.come, programs.more)))
+    rw (leaves.0) (inr (is, omega (arith, asked, ok.within.come, programs.more)))
 silent_after old new task others (Ended reply) result out ok advances leaves silent = absurd (sent_or_silent result _ leaves.2 silent)
 silent_after old new task others (Failed op reply) result out ok advances leaves silent = absurd (sent_or_silent result _ leaves.2 silent)
 
@@ -57,16 +54,8 @@ going_was_silent old new result out goes silent = silent_after old new goes.task
 
 -- a task that tries an entry was not silent
 not_written : (command : Cdb) (task : Task) → tries_entry_of command task ≡ true → is_write command ≡ false
-not_written (HpbRead lba entry n id) task is = refl
 not_written (Write lba n) task is = absurd (false≢true is)
-not_written TestReady task is = refl
-not_written (Read lba n) task is = refl
-not_written Capacity task is = refl
-not_written (Sync lba n) task is = refl
-not_written (ReadBuffer region sub len) task is = refl
-not_written (Prefetch lba id len) task is = refl
-not_written (InactOne region) task is = refl
-not_written InactAll task is = refl
+not_written _ task is = refl
 
 not_tried : (command : Cdb) (task : Task) → tries_entry_of command task ≡ true → task.tried ≡ false
 not_tried (HpbRead lba entry n id) task is = by_tried (task.sent == 0) (nat_lt 0 n) task.tried refl is
@@ -76,15 +65,7 @@ not_tried (HpbRead lba entry n id) task is = by_tried (task.sent == 0) (nat_lt 0
     by_tried true true true at is = absurd (false≢true is)
     by_tried true false true at is = absurd (false≢true is)
     by_tried false b true at is = absurd (false≢true is)
-not_tried (Write lba n) task is = absurd (false≢true is)
-not_tried TestReady task is = absurd (false≢true is)
-not_tried (Read lba n) task is = absurd (false≢true is)
-not_tried Capacity task is = absurd (false≢true is)
-not_tried (Sync lba n) task is = absurd (false≢true is)
-not_tried (ReadBuffer region sub len) task is = absurd (false≢true is)
-not_tried (Prefetch lba id len) task is = absurd (false≢true is)
-not_tried (InactOne region) task is = absurd (false≢true is)
-not_tried InactAll task is = absurd (false≢true is)
+not_tried _ task is = absurd (false≢true is)
 
 pub tries_was_silent : (tasks : List Task) (task : Task) (others : List Task) → tasks ≡ task ∷ others → tries_entry task ≡ true → WasSilent tasks → ⊥
 tries_was_silent tasks task others is tries silent = elim (subst WasSilent is silent) [
@@ -93,17 +74,10 @@ tries_was_silent tasks task others is tries silent = elim (subst WasSilent is si
 ]
 
 -- the entry that a task tries is one that its next block has
-entry_found : (s : Sizes) (lists : List Fetched) (waiting : Waiting) (command : Cdb) (task : Task) → lists ≡ [] → tries_entry_of command task ≡ true → is_some (entry_of_block lists waiting command 0) ≡ true
+entry_found : (s : Sizes) (lists : List Fetched) (waiting : Waiting) (command : Cdb) (task : Task) → lists ≡ [] → tries_entry_of command task ≡ true
+    → is_some (entry_of_block lists waiting command 0) ≡ true
 entry_found s lists waiting (HpbRead lba entry n id) task none is = rw none refl
-entry_found s lists waiting TestReady task none is = absurd (false≢true is)
-entry_found s lists waiting (Read lba n) task none is = absurd (false≢true is)
-entry_found s lists waiting (Write lba n) task none is = absurd (false≢true is)
-entry_found s lists waiting Capacity task none is = absurd (false≢true is)
-entry_found s lists waiting (Sync lba n) task none is = absurd (false≢true is)
-entry_found s lists waiting (ReadBuffer region sub len) task none is = absurd (false≢true is)
-entry_found s lists waiting (Prefetch lba id len) task none is = absurd (false≢true is)
-entry_found s lists waiting (InactOne region) task none is = absurd (false≢true is)
-entry_found s lists waiting InactAll task none is = absurd (false≢true is)
+entry_found s lists waiting _ task none is = absurd (false≢true is)
 
 pub tries_has_entry : (device : DeviceState) (task : Task) (others : List Task) (tasks : List Waiting) (e : History) → device.tasks ≡ task ∷ others → KeepsTasks device.tasks device.held tasks
     → IsTaskOk device.store.luns (limits_of device.shape) task → tries_entry task ≡ true → has_entry (sizes_of device) e tasks ≡ true
@@ -111,7 +85,7 @@ tries_has_entry device task others tasks e was keeps ok tries =
     let s = sizes_of device in
     let k = subst (λ (ts : List Task). KeepsTasks ts device.held tasks) was keeps in
     let at = tries_of (limits_of device.shape) task.command task tries in
-    let given = given_is s (limits_of device.shape) task.command refl refl refl refl ok.served in
+    let given = given_is s (limits_of device.shape) task.command refl refl refl refl ok.accepted.served in
     let none : lists_after s e ≡ [] = no_lists s e refl in
     let sent : k.0.sent ≡ 0 = k.1.sent ∙ at.none_sent in
     let more : nat_lt 0 (Rattle.flat_unit.specs.Command.bytes_given s task.command) ≡ true = grind (arith, nat_tests, given, at.some) in
@@ -128,7 +102,8 @@ first_false : (a b : Bool) → (a || b) ≡ false → a ≡ false
 first_false false b is = refl
 first_false true b is = is
 
-head_gone : (others : List Task) (held : List ℕ) (gone : Waiting) (now : List Waiting) → list_any (has_tag gone.tag) (map waiting_of others) ≡ false → KeepsTasks others held now → keeps_head (gone ∷ map waiting_of others) now ≡ false
+head_gone : (others : List Task) (held : List ℕ) (gone : Waiting) (now : List Waiting) → list_any (has_tag gone.tag) (map waiting_of others) ≡ false → KeepsTasks others held now
+    → keeps_head (gone ∷ map waiting_of others) now ≡ false
 head_gone [] held gone now alone keeps = rw keeps refl
 head_gone (next ∷ others) held gone now alone keeps =
     let other : (next.tag == gone.tag) ≡ false = first_false (next.tag == gone.tag) (list_any (has_tag gone.tag) (map waiting_of others)) alone in
@@ -136,7 +111,8 @@ head_gone (next ∷ others) held gone now alone keeps =
     rw (keeps.2, keeps.1.tag) apart
 
 -- where the first task is the one that it was, it has been silent as before
-pub received_was_silent : (old new : DeviceState) (bytes : List ℕ) (result : Sent) (out : List ℕ) (first : First) (e : History) (now : List Waiting) → (at : DeviceStands old first e) → KeepsTasks new.tasks new.held now
+pub received_was_silent : (old new : DeviceState) (bytes : List ℕ) (result : Sent) (out : List ℕ) (first : First) (e : History) (now : List Waiting) → (at : DeviceStands old first e)
+    → KeepsTasks new.tasks new.held now
     → Receives old new bytes result out → keeps_head at.tasks now ≡ true → WasSilent old.tasks → WasSilent new.tasks
 received_was_silent old new bytes Nothing out first e now at keeps receives same silent = elim receives [
   | inl kept ↦ rw (kept.kept) (more_silent old.tasks kept.task silent)
@@ -146,7 +122,7 @@ received_was_silent old new bytes Upiu out first e now at keeps receives same si
   | inl stays ↦ subst (λ (d : DeviceState). WasSilent d.tasks) (sym stays) silent
   | inr ends ↦
       let k = subst (λ (ts : List Task). KeepsTasks ts old.held at.tasks) ends.was at.keeps in
-      let queue = queue_of (sizes_of old) first (kept_of old at.tasks) e at.stands in
+      let queue = queue_of (sizes_of old) first (kept_of at.erases old at.tasks) e at.stands in
       let alone : list_any (has_tag k.0.tag) (map waiting_of ends.others) ≡ false = (subst AreApart k.2 queue.apart).0 in
       let left : KeepsTasks ends.others new.held now = subst (λ (ts : List Task). KeepsTasks ts new.held now) ends.ended keeps in
       let gone : keeps_head at.tasks now ≡ false = ap (λ (ts : List Waiting). keeps_head ts now) k.2 ∙ head_gone ends.others new.held k.0 now alone left in

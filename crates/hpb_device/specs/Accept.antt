@@ -3,7 +3,7 @@ use Rattle.std.specs.Prelude.{⊤, ◌≡◌, ℕ, ◌+◌, ◌^◌, ◌<◌, �
 use Rattle.hpb_cdb.specs.declared.limits.Limits.{Limits}
 use Rattle.hpb_cdb.specs.Cdb.{IsCdb}
 use Rattle.upiu_wire.specs.Upiu.{Upiu, upiu_at}
-use Rattle.flat_unit.proofs.Goes.{IsHarmless}
+use Rattle.flat_unit.specs.Harmless.{IsHarmless}
 use Rattle.upiu_wire.specs.declared.kind.Kind.TheVariants.{Command, DataOut}
 use Rattle.hpb_device.specs.declared.reply.Reply.TheVariants.{Reject, Check}
 use Rattle.hpb_device.specs.declared.reply.Cause.TheVariants.{DataNotAsked}
@@ -17,7 +17,6 @@ use Rattle.hpb_cdb.specs.declared.fault.CdbFault.{CdbFault}
 use Rattle.hpb_device.specs.declared.reply.Cause.{Cause}
 use Rattle.hpb_device.specs.Reply.{reply_upiu, cause_sense}
 use Rattle.hpb_device.specs.declared.task.Task.{Task}
-use Rattle.hpb_device.specs.declared.task.TheConstants.{TASKS}
 use Rattle.hpb_device.specs.declared.reply.Reply.{Reply}
 use Rattle.hpb_device.specs.declared.accept.Verdict.{Verdict}
 use Rattle.hpb_device.specs.declared.accept.Verdict.TheVariants.{Keep, Data, Answer, End}
@@ -52,7 +51,7 @@ EndsFirst (head ∷ _) reply =
 
 -- a command is kept where there is room
 abbrev pub IsVerdict : Limits → ℕ → List Task → Upiu → Verdict → Type 0
-IsVerdict lim luns tasks upiu (Keep task) = (length tasks < TASKS) × IsBegun lim luns upiu task
+IsVerdict lim luns tasks upiu (Keep task) = (length tasks < 32) × IsBegun lim luns upiu task
 IsVerdict lim luns tasks upiu (Data segment) = TakesPiece tasks upiu segment.now
 IsVerdict lim luns tasks upiu (Answer reply) = ⊤
 IsVerdict lim luns tasks upiu (End reply) = EndsFirst tasks reply
@@ -60,7 +59,8 @@ IsVerdict lim luns tasks upiu (End reply) = EndsFirst tasks reply
 -- the command of a CDB, or why it is refused
 abbrev pub IsCommandOf : Sizes → List ℕ → Result Cdb Cause → Type 0
 IsCommandOf s cdb (Ok command) = command_of s cdb ≡ Ok command
-IsCommandOf s cdb (Err cause) = (fault : CdbFault) × (command_of s cdb ≡ Err fault) × (cause_sense cause ≡ sense_of_fault fault)
+IsCommandOf s cdb (Err cause) = (fault : CdbFault) × (command_of s cdb ≡ Err fault)
+    × (cause_sense cause ≡ sense_of_fault fault)
 
 -- nothing stands against a command
 pub record IsUnopposed (s : Sizes) (tasks : List Waiting) (upiu : Upiu) (task : Task) : Type 0 where

@@ -8,24 +8,24 @@ use Rattle.hpb_device.specs.declared.device.Sent.{Sent}
 use Rattle.hpb_device.specs.declared.device.Sent.TheVariants.{Nothing, Upiu}
 use Rattle.hpb_device.specs.declared.device.Stepped.{Stepped}
 use Rattle.hpb_device.specs.declared.task.Task.{Task}
-use Rattle.hpb_device.specs.declared.task.TheConstants.{TASKS}
 use Rattle.hpb_device.specs.declared.reply.Cause.TheVariants.{DataNotAsked}
 use Rattle.hpb_device.specs.declared.reply.Reply.TheVariants.{Check}
 use Rattle.hpb_device.specs.declared.advance.Progress.{Progress}
-use Rattle.hpb_device.specs.declared.advance.Progress.TheVariants.{Shown, Found, Missed, Listed, Told, Asked, Programmed, Ended, Failed}
+use Rattle.hpb_device.specs.declared.advance.Progress.TheVariants.{Sends, Silent, Ended, Failed}
 use Rattle.hpb_device.specs.Accept.{IsBegun, IsNextPiece}
 use Rattle.hpb_device.specs.Counts.{counted}
-use Rattle.hpb_device.specs.Advance.{Advances, IsSameStore, MakesACallAtMost}
+use Rattle.hpb_device.specs.Advance.{Advances, IsSameStore}
 use Rattle.hpb_device.specs.Limits.{limits_of}
 use Rattle.hpb_device.specs.Reply.{reply_upiu}
 use Rattle.hpb_device.specs.Standing.{sizes_of}
 use Rattle.hpb_device.specs.State.{DeviceState, steps_left}
+use Rattle.hpb_device.specs.StoreCounts.{CountsStep}
 use Rattle.hpb_device.specs.Task.{WaitsForData, IsTaskOk, tries_entry}
 
 -- a command was kept, last in order, where there was room; no more steps are left than it takes at most
 pub record Keeps (old new : DeviceState) (bytes : List ℕ) : Type 0 where
   pub task : Task
-  pub room : length old.tasks < TASKS
+  pub room : length old.tasks < 32
   pub begun : IsBegun (limits_of old.shape) old.store.luns (upiu_at bytes) task
   pub kept : new.tasks ≡ old.tasks ++ task ∷ []
   pub held : new.held ≡ old.held
@@ -62,13 +62,8 @@ stepped failed sent = record { idle = false; failed = failed; moved = None; sent
 
 -- the tasks that are kept after a step, the data that are held, and what the step tells and sends
 abbrev pub Leaves : Progress → (others tasks : List Task) → (held : List ℕ) → Stepped → List ℕ → Type 0
-Leaves (Shown rest) others tasks held result out = (tasks ≡ rest ∷ others) × (result ≡ stepped None true)
-Leaves (Found rest) others tasks held result out = (tasks ≡ rest ∷ others) × (result ≡ stepped None true)
-Leaves (Missed rest) others tasks held result out = (tasks ≡ rest ∷ others) × (result ≡ stepped None false)
-Leaves (Listed rest) others tasks held result out = (tasks ≡ rest ∷ others) × (result ≡ stepped None true)
-Leaves (Told rest) others tasks held result out = (tasks ≡ rest ∷ others) × (result ≡ stepped None true)
-Leaves (Asked rest) others tasks held result out = (tasks ≡ rest ∷ others) × (result ≡ stepped None true)
-Leaves (Programmed rest) others tasks held result out = (tasks ≡ rest ∷ others) × (result ≡ stepped None false)
+Leaves (Sends what rest) others tasks held result out = (tasks ≡ rest ∷ others) × (result ≡ stepped None true)
+Leaves (Silent what rest) others tasks held result out = (tasks ≡ rest ∷ others) × (result ≡ stepped None false)
 Leaves (Ended reply) others tasks held result out =
     (tasks ≡ others) × (held ≡ []) × (result ≡ stepped None true) × (out ≡ upiu_out (reply_upiu reply))
 Leaves (Failed op reply) others tasks held result out =
@@ -90,7 +85,7 @@ pub record GoesOn (old new : DeviceState) (result : Stepped) (out : List ℕ) : 
   pub advances : Advances (limits_of old.shape) old.store new.store old.held new.held task progress out
   pub leaves : Leaves progress others new.tasks new.held result out
   pub same : IsSameStore old.store new.store
-  pub calls : MakesACallAtMost old.store new.store
+  pub calls : CountsStep old.store new.store task progress
   pub counts : new.counts ≡ counted old.counts (tries_entry task) progress
 
 abbrev pub Steps : (old new : DeviceState) → Stepped → (out : List ℕ) → Type 0

@@ -5,7 +5,8 @@ use Rattle.flash_pages.specs.declared.chip.ChipOp.{ChipOp}
 use Rattle.flash_pages.specs.declared.chip.ChipOp.TheVariants.{Read as ReadCall}
 use Rattle.hpb_device.specs.declared.counts.Counts.{Counts}
 use Rattle.hpb_device.specs.declared.advance.Progress.{Progress}
-use Rattle.hpb_device.specs.declared.advance.Progress.TheVariants.{Shown, Found, Failed}
+use Rattle.hpb_device.specs.declared.advance.Progress.TheVariants.{Sends, Failed}
+use Rattle.hpb_device.specs.declared.advance.Transfer.TheVariants.{LookedUp, ByEntry}
 
 -- nothing is counted yet
 abbrev pub no_counts : Counts
@@ -19,8 +20,8 @@ counted_failure counts tried _ = counts
 
 -- one more step was made, which tried an entry or not
 abbrev pub counted_step : Counts → (tried : Bool) → Progress → Counts
-counted_step counts tried (Shown rest) = record counts { lookups = raised counts.lookups }
-counted_step counts tried (Found rest) = record counts { entries = raised counts.entries }
+counted_step counts tried (Sends LookedUp rest) = record counts { lookups = raised counts.lookups }
+counted_step counts tried (Sends ByEntry rest) = record counts { entries = raised counts.entries }
 counted_step counts tried (Failed op reply) = counted_failure counts tried op
 counted_step counts tried _ = counts
 

@@ -5,8 +5,11 @@ pub mod Counts
 pub mod Entries
 pub mod Keeps
 pub mod Limits
+pub mod Listed
 pub mod Reply
 pub mod Sizes
 pub mod Standing
 pub mod State
+pub mod StoreCounts
 pub mod Task
+pub mod Work

@@ -1,10 +1,8 @@
 -- The sizes of a device, by which its history is judged.
 use Rattle.std.specs.Prelude.{ℕ, ◌+◌, ◌*◌, false, List, [], ◌∷◌}
-use Rattle.flash_pages.specs.declared.chip.TheConstants.{BLOCK_BYTES}
 use Rattle.flash_pages.specs.declared.chip.Geometry.{Geometry}
 use Rattle.hpb_cdb.specs.declared.limits.Limits.{Limits}
 use Rattle.flat_unit.specs.Sizes.{Sizes}
-use Rattle.hpb_device.specs.declared.task.TheConstants.{TASKS}
 
 -- the opcodes of the commands that are served (SBC, SPC; HPB READ and READ BUFFER are this project's own)
 abbrev pub OPCODES : List ℕ
@@ -15,8 +13,8 @@ abbrev pub sizes : ℕ → Limits → Geometry → Sizes
 sizes luns lim geometry = record {
   luns = luns;
   units = lim.units;
-  block = BLOCK_BYTES;
-  room = TASKS;
+  block = 4096;
+  room = 32;
   pages = 0;
   erase_block = geometry.pages;
   per_region = lim.per_region;

@@ -1,6 +1,7 @@
 -- Where a device stands in a history.
-use Rattle.std.specs.Prelude.{ℕ, true, List, [], ◌∷◌, Some, None, if◌then◌else◌}
+use Rattle.std.specs.Prelude.{◌≡◌, ℕ, ◌-◌, ◌^◌, min, true, List, [], ◌∷◌, Some, None, if◌then◌else◌}
 use Rattle.std.specs.Option.{option_map}
+use Rattle.flash_pages.specs.Chip.{erased_count}
 use Rattle.flash_pages.specs.Unit.{unit_of, next_seq}
 use Rattle.flat_unit.specs.declared.event.Event.{Event}
 use Rattle.flat_unit.specs.declared.event.Event.TheVariants.{Device}
@@ -26,25 +27,33 @@ abbrev pub programmed_of : List Task → ℕ
 programmed_of [] = 0
 programmed_of (head ∷ _) = head.programmed
 
--- what a device keeps, with these tasks
-abbrev pub kept_of : DeviceState → List Waiting → Kept
-kept_of device tasks = record {
+-- what a device keeps that has erased so many erase blocks, with these tasks
+abbrev pub kept_of : (erases : ℕ) → DeviceState → List Waiting → Kept
+kept_of erases device tasks = record {
   tasks = tasks;
   on = true;
   unit = unit_of device.store.luns device.store.units device.store.pages;
   programmed = programmed_of device.tasks;
   next = next_seq device.store.pages;
+  free = erased_count device.store.pages;
+  erases = erases;
 }
 
--- the unit of a device's chip and its next sequence number, as a history begins over them
+-- the unit of a device's chip, its next sequence number and its erased pages, as a history begins over them
 abbrev pub first_of : DeviceState → First
-first_of device = record { unit = unit_of device.store.luns device.store.units device.store.pages; next = next_seq device.store.pages }
+first_of device = record {
+  unit = unit_of device.store.luns device.store.units device.store.pages;
+  next = next_seq device.store.pages;
+  free = erased_count device.store.pages;
+}
 
--- the device keeps the tasks of the history, and stands at it
+-- the device keeps the tasks of the history, and stands at it; its count of erased blocks stops at its last value
 pub record DeviceStands (device : DeviceState) (first : First) (e : History) : Type 0 where
   pub tasks : List Waiting
+  pub erases : ℕ
   pub keeps : KeepsTasks device.tasks device.held tasks
-  pub stands : Stands (sizes_of device) first (kept_of device tasks) e
+  pub counted : device.counts.erased ≡ min erases (2 ^ 64 - 1)
+  pub stands : Stands (sizes_of device) first (kept_of erases device tasks) e
 
 -- the events that answer the bytes of the host at once
 abbrev pub answer_events : Sent → List ℕ → List Event

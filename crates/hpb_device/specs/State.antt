@@ -8,7 +8,6 @@ use Rattle.region_state.specs.declared.shape.Shape.{Shape}
 use Rattle.region_state.specs.Shape.{IsWithinLimits}
 use Rattle.hpb_device.specs.declared.counts.Counts.{Counts}
 use Rattle.hpb_device.specs.declared.task.Task.{Task}
-use Rattle.hpb_device.specs.declared.task.TheConstants.{BURST_BYTES}
 use Rattle.hpb_device.specs.Limits.{limits_of}
 use Rattle.hpb_device.specs.Task.{WaitsForData, IsQueue, steps_of}
 
@@ -28,7 +27,7 @@ pub record IsDevice (store : StoreState) (shape : Shape) (luns : ℕ) (tasks : L
   pub served : CanServe store.geometry luns shape.units
   pub whole : length store.pages ≡ store.geometry.blocks * store.geometry.pages
   pub queue : IsQueue luns (limits_of shape) held tasks
-  pub burst : BURST_BYTES ≤ room
+  pub burst : 32768 ≤ room
 
 -- nothing can go on without the host: no task is kept, or the first one waits for data
 abbrev pub AreAtRest : List Task → Type 0

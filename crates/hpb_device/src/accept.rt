@@ -107,7 +107,7 @@ fn judge_command(
 ) -> Result<Task, Reply>
     requires limits { 0 < limits.per_sub }
     requires few_blocks { limits.units < 2 ^ 32 }
-    ensures room { OnOk result (length tasks.now < TASKS) }
+    ensures room { OnOk result (length tasks.now < 32) }
     ensures first_fits { (upiu_at view.now).first < 2 ^ 32 }
     ensures begun { IfOk result (IsBegun limits luns (upiu_at view.now)) }
     ensures judged { (geometry : Geometry) (held : List ℕ) (waiting : List Waiting) → KeepsTasks tasks.now held waiting

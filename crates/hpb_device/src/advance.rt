@@ -2,10 +2,11 @@
 ghost use Rattle.std.specs.Prelude.{◌≡◌, ◌+◌, ◌-◌, ◌*◌, ◌^◌, ◌<◌, ◌≤◌, ℕ, true, false, List, [], length, vec_capacity};
 ghost use Rattle.hpb_device.specs.Task.{IsTaskOk, HoldsData, steps_of, tries_entry};
 ghost use Rattle.flash_store.specs.Store.{StoreState};
-ghost use Rattle.hpb_device.specs.Advance.{ReadsBlocks, entries_of, entry_given, first_block, first_listed, Advances, AllTasks, IsSameStore, MakesACallAtMost, check};
+ghost use Rattle.hpb_device.specs.Advance.{ReadsBlocks, entries_of, entry_given, first_block, Advances, AllTasks, IsSameStore, check};
+ghost use Rattle.hpb_device.specs.StoreCounts.{CountsStep, raised_times};
 
 use crate::reply::{Cause, Reply};
-use crate::task::{BURST_BYTES, CAPACITY_BYTES, ENTRY_BYTES, Task};
+use crate::task::{BURST_BYTES, CAPACITY_BYTES, ENTRY_BYTES, Task, Work, work_of};
 use byteorder::{BigEndian, ByteOrder};
 use flash_pages::{BLOCK_BYTES, ChipOp, Flash};
 use flash_store::{Store, StoreFault, Wrote};
@@ -17,23 +18,37 @@ const BLOCK: u32 = BLOCK_BYTES as u32;
 
 const ENTRY: u32 = ENTRY_BYTES as u32;
 
+/// What a step sent for a task that goes on: data by DATA IN, or READY TO TRANSFER.
+#[derive(Clone, Copy, Debug, PartialEq, Eq)]
+pub enum Transfer {
+    /// A block that was looked up.
+    LookedUp,
+    /// A block that was read by its entry.
+    ByEntry,
+    /// Entries of a subregion.
+    EntryList,
+    /// The capacity of the unit.
+    UnitCapacity,
+    /// READY TO TRANSFER for the next data.
+    Ready,
+}
+
+/// What a step did that sent nothing.
+#[derive(Clone, Copy, Debug, PartialEq, Eq)]
+pub enum Internal {
+    /// The entry of the next block was tried, and isn't that of the block.
+    Missed,
+    /// A block was programmed.
+    Programmed,
+}
+
 /// What a step made of a command.
 #[derive(Clone, Copy, Debug, PartialEq, Eq)]
 pub enum Progress {
-    /// A block that was looked up was sent by DATA IN.
-    Shown(Task),
-    /// A block was read by its entry and sent by DATA IN.
-    Found(Task),
-    /// The entry isn't that of the block, and nothing was sent.
-    Missed(Task),
-    /// Entries were sent by DATA IN.
-    Listed(Task),
-    /// The capacity of the unit was sent by DATA IN.
-    Told(Task),
-    /// Data were asked for by READY TO TRANSFER.
-    Asked(Task),
-    /// A block was programmed.
-    Programmed(Task),
+    /// A UPIU was sent, and the task goes on.
+    Sends(Transfer, Task),
+    /// Nothing was sent, and the task goes on.
+    Silent(Internal, Task),
     /// The command is to be answered, and is no longer kept.
     Ended(Reply),
     /// A call of the chip failed, and the command is to be answered.
@@ -77,35 +92,43 @@ pub fn advance<F: Flash>(
     requires units { limits.units ≡ store.old.units }
     requires some_block { 0 < limits.units }
     requires held { HoldsData held.old.items task }
-    requires room { BURST_BYTES ≤ vec_capacity held.old }
+    requires room { 32768 ≤ vec_capacity held.old }
     requires goes { task.come ≡ task.asked }
     ensures advances { Advances limits store.old store.new held.old.items held.new.items task result out.new }
     ensures ok { AllTasks (IsTaskOk store.old.luns limits) result }
     ensures held { AllTasks (HoldsData held.new.items) result }
     ensures fewer { AllTasks (λ rest. steps_of limits rest < steps_of limits task) result }
     ensures same { IsSameStore store.old store.new }
-    ensures calls { MakesACallAtMost store.old store.new }
+    ensures calls { CountsStep store.old store.new task result }
     ensures room { vec_capacity held.old ≤ vec_capacity held.new }
 {
-    match task.command {
-        Cdb::Read { lba, .. } => show(store, task, lba, limits, out),
-        Cdb::HpbRead { lba, entry, .. } => {
+    match work_of(task.command) {
+        Work::ReadBlocks {
+            lba,
+            entry: None,
+            ..
+        } => show(store, task, lba, limits, out),
+        Work::ReadBlocks {
+            lba,
+            entry: Some(entry),
+            ..
+        } => {
             if task.tries_entry() {
                 try_entry(store, task, lba, entry, limits, out)
             } else {
                 show(store, task, lba, limits, out)
             }
         }
-        Cdb::Write { lba, n } => {
+        Work::WriteBlocks { lba, n } => {
             if BLOCK * task.programmed < task.come {
                 program(store, held, task, lba, n, limits)
             } else {
                 ask(store, held, task, lba, n, limits, out)
             }
         }
-        Cdb::ReadBuffer { .. } => list(store, held, task, limits, out),
-        Cdb::Capacity => tell(task, limits, out),
-        _ => Progress::Ended(good(task)),
+        Work::ListEntries { region, sub, .. } => list(store, held, task, region, sub, limits, out),
+        Work::TellCapacity => tell(task, limits, out),
+        Work::AnswerOnly => Progress::Ended(good(task)),
     }
 }
 
@@ -128,7 +151,7 @@ fn show<F: Flash>(
     ensures held { (held : List ℕ) → HoldsData held task → AllTasks (HoldsData held) result }
     ensures fewer { AllTasks (λ rest. steps_of limits rest < steps_of limits task) result }
     ensures same { IsSameStore store.old store.new }
-    ensures calls { MakesACallAtMost store.old store.new }
+    ensures calls { CountsStep store.old store.new task result }
 {
     if task.sent == task.given {
         return Progress::Ended(good(task));
@@ -136,7 +159,7 @@ fn show<F: Flash>(
     match store.read_mapped(task.lun, lba + task.sent / BLOCK) {
         Ok(block) => {
             out.put_data_in(task.lun, task.tag, task.sent, block);
-            Progress::Shown(task.with_block())
+            Progress::Sends(Transfer::LookedUp, task.with_block())
         }
         Err(Failed) => Progress::Failed(ChipOp::Read, check(task, Cause::ReadFailed)),
     }
@@ -161,17 +184,20 @@ fn try_entry<F: Flash>(
     ensures held { (held : List ℕ) → HoldsData held task → AllTasks (HoldsData held) result }
     ensures fewer { AllTasks (λ rest. steps_of limits rest < steps_of limits task) result }
     ensures same { IsSameStore store.old store.new }
-    ensures calls { MakesACallAtMost store.old store.new }
+    ensures calls { CountsStep store.old store.new task result }
 {
     match store.read_by_entry(task.lun, lba, entry) {
         Ok(Some(block)) => {
             out.put_data_in(task.lun, task.tag, task.sent, block);
-            Progress::Found(task.with_block())
+            Progress::Sends(Transfer::ByEntry, task.with_block())
         }
-        Ok(None) => Progress::Missed(Task {
-            tried: true,
-            ..task
-        }),
+        Ok(None) => Progress::Silent(
+            Internal::Missed,
+            Task {
+                tried: true,
+                ..task
+            },
+        ),
         Err(Failed) => Progress::Failed(ChipOp::Read, check(task, Cause::ReadFailed)),
     }
 }
@@ -181,49 +207,49 @@ fn list<F: Flash>(
     store: &mut Store<F>,
     held: &mut Vec<u8>,
     task: Task,
+    region: u16,
+    sub: u16,
     limits: Limits,
     out: &mut UpiuBuf,
 ) -> Progress
     requires task { IsTaskOk store.old.luns limits task }
     requires units { limits.units ≡ store.old.units }
     requires held { HoldsData held.old.items task }
-    requires room { BURST_BYTES ≤ vec_capacity held.old }
-    requires command { (region : ℕ) × (sub : ℕ) × (len : ℕ) × (task.command ≡ Cdb.ReadBuffer region sub len) }
+    requires room { 32768 ≤ vec_capacity held.old }
+    requires command { (len : ℕ) × (task.command ≡ Cdb.ReadBuffer region sub len) }
     requires goes { task.come ≡ task.asked }
     ensures advances { Advances limits store.old store.new held.old.items held.new.items task result out.new }
     ensures ok { AllTasks (IsTaskOk store.old.luns limits) result }
     ensures held { AllTasks (HoldsData held.new.items) result }
     ensures fewer { AllTasks (λ rest. steps_of limits rest < steps_of limits task) result }
     ensures same { IsSameStore store.old store.new }
-    ensures calls { (store.new.calls ≡ store.old.calls) × (store.new.faults ≡ store.old.faults) }
+    ensures calls { CountsStep store.old store.new task result }
     ensures room { vec_capacity held.old ≤ vec_capacity held.new }
 {
     if task.sent == task.given {
         return Progress::Ended(good(task));
     }
     let count = (task.given - task.sent).min(BLOCK);
-    let first = first_listed(task.command, limits) + task.sent / ENTRY;
+    let first = first_listed(region, sub, limits) + task.sent / ENTRY;
     let entries = count.div_ceil(ENTRY);
     push_entries(store, held, task.lun, first, entries);
     out.put_data_in(task.lun, task.tag, task.sent, &held[..count as usize]);
     held.clear();
-    Progress::Listed(Task {
-        sent: task.sent + count,
-        ..task
-    })
+    Progress::Sends(
+        Transfer::EntryList,
+        Task {
+            sent: task.sent + count,
+            ..task
+        },
+    )
 }
 
-/// The first block of the subregion that READ BUFFER names.
-fn first_listed(command: Cdb, limits: Limits) -> u32
-    requires { first_listed limits command < 2 ^ 32 }
-    ensures { result ≡ first_listed limits command }
+/// The first block of a subregion.
+fn first_listed(region: u16, sub: u16, limits: Limits) -> u32
+    requires { region * limits.per_region + sub * limits.per_sub < 2 ^ 32 }
+    ensures { result ≡ region * limits.per_region + sub * limits.per_sub }
 {
-    match command {
-        Cdb::ReadBuffer { region, sub, .. } => {
-            u32::from(region) * limits.per_region + u32::from(sub) * limits.per_sub
-        }
-        _ => 0,
-    }
+    u32::from(region) * limits.per_region + u32::from(sub) * limits.per_sub
 }
 
 /// Puts the entries of blocks into an empty buffer.
@@ -232,12 +258,14 @@ fn push_entries<F: Flash>(store: &mut Store<F>, held: &mut Vec<u8>, lun: u8, fir
     requires blocks { first + count ≤ store.old.units }
     requires few_blocks { store.old.units < 2 ^ 32 }
     requires empty { held.old.items ≡ [] }
-    requires room { ENTRY_BYTES * count ≤ vec_capacity held.old }
+    requires room { 8 * count ≤ vec_capacity held.old }
     ensures entries { held.new.items ≡ entries_of store.old.pages lun first count }
     ensures room { vec_capacity held.old ≤ vec_capacity held.new }
     ensures pages { store.new.pages ≡ store.old.pages }
     ensures same { IsSameStore store.old store.new }
     ensures calls { (store.new.calls ≡ store.old.calls) × (store.new.faults ≡ store.old.faults) }
+    ensures lookups { store.new.lookups ≡ raised_times count store.old.lookups }
+    ensures hits { store.new.hits ≡ store.old.hits }
 {
     for lba in first..first + count {
         held.extend_from_slice(&store.entry_of(lun, lba).to_be_bytes())
@@ -259,21 +287,24 @@ fn program<F: Flash>(
     requires held { HoldsData held.now task }
     requires command { task.command ≡ Cdb.Write lba n }
     requires come { task.come ≡ task.asked }
-    requires more { BLOCK_BYTES * task.programmed < task.come }
+    requires more { 4096 * task.programmed < task.come }
     ensures advances { (out : List ℕ) → Advances limits store.old store.new held.now held.now task result out }
     ensures ok { AllTasks (IsTaskOk store.old.luns limits) result }
     ensures held { AllTasks (HoldsData held.now) result }
     ensures fewer { AllTasks (λ rest. steps_of limits rest < steps_of limits task) result }
     ensures same { IsSameStore store.old store.new }
-    ensures calls { MakesACallAtMost store.old store.new }
+    ensures calls { CountsStep store.old store.new task result }
 {
     let start = BLOCK_BYTES * task.programmed as usize + held.len() - task.come as usize;
     let block = &held[start..start + BLOCK_BYTES];
     match store.write_step(task.lun, lba + task.programmed, block) {
-        Ok(Wrote::Done) => Progress::Programmed(Task {
-            programmed: task.programmed + 1,
-            ..task
-        }),
+        Ok(Wrote::Done) => Progress::Silent(
+            Internal::Programmed,
+            Task {
+                programmed: task.programmed + 1,
+                ..task
+            },
+        ),
         Err(StoreFault::NoRoom) => Progress::Ended(check(task, Cause::NoRoom)),
         Err(StoreFault::Failed(op)) => Progress::Failed(op, check(task, Cause::WriteFailed)),
     }
@@ -292,11 +323,12 @@ fn ask<F: Flash>(
     requires task { IsTaskOk store.now.luns limits task }
     requires command { task.command ≡ Cdb.Write lba n }
     requires come { task.come ≡ task.asked }
-    requires programmed { BLOCK_BYTES * task.programmed ≡ task.come }
+    requires programmed { 4096 * task.programmed ≡ task.come }
     ensures advances { Advances limits store.now store.now held.old.items held.new.items task result out.new }
     ensures ok { AllTasks (IsTaskOk store.now.luns limits) result }
     ensures fewer { AllTasks (λ rest. steps_of limits rest < steps_of limits task) result }
     ensures held { AllTasks (HoldsData held.new.items) result }
+    ensures calls { CountsStep store.now store.now task result }
     ensures room { vec_capacity held.old ≤ vec_capacity held.new }
 {
     let left = BLOCK * u32::from(n) - task.asked;
@@ -306,10 +338,13 @@ fn ask<F: Flash>(
     let count = left.min(BURST_BYTES as u32);
     held.clear();
     out.put_rtt(task.lun, task.tag, task.asked, count);
-    Progress::Asked(Task {
-        asked: task.asked + count,
-        ..task
-    })
+    Progress::Sends(
+        Transfer::Ready,
+        Task {
+            asked: task.asked + count,
+            ..task
+        },
+    )
 }
 
 /// Sends the capacity of a unit, or answers READ CAPACITY(10) (SBC).
@@ -318,10 +353,12 @@ fn tell(task: Task, limits: Limits, out: &mut UpiuBuf) -> Progress
     requires some_block { 0 < limits.units }
     requires command { task.command ≡ Cdb.Capacity }
     requires goes { task.come ≡ task.asked }
-    ensures advances { (store : StoreState) (held : List ℕ) → store.units ≡ limits.units → Advances limits store store held held task result out.new }
+    ensures advances { (store : StoreState) (held : List ℕ) → store.units ≡ limits.units
+        → Advances limits store store held held task result out.new }
     ensures ok { (luns : ℕ) → IsTaskOk luns limits task → AllTasks (IsTaskOk luns limits) result }
     ensures held { (held : List ℕ) → HoldsData held task → AllTasks (HoldsData held) result }
     ensures fewer { AllTasks (λ rest. steps_of limits rest < steps_of limits task) result }
+    ensures calls { (store : StoreState) → CountsStep store store task result }
 {
     if task.sent == CAPACITY_BYTES as u32 {
         return Progress::Ended(good(task));
@@ -330,8 +367,11 @@ fn tell(task: Task, limits: Limits, out: &mut UpiuBuf) -> Progress
     BigEndian::write_u32(&mut capacity[..4], limits.units as u32 - 1);
     BigEndian::write_u32(&mut capacity[4..], BLOCK);
     out.put_data_in(task.lun, task.tag, task.sent, &capacity);
-    Progress::Told(Task {
-        sent: CAPACITY_BYTES as u32,
-        ..task
-    })
+    Progress::Sends(
+        Transfer::UnitCapacity,
+        Task {
+            sent: CAPACITY_BYTES as u32,
+            ..task
+        },
+    )
 }

@@ -2,7 +2,7 @@ ghost use Rattle.std.specs.Prelude.{◌≡◌};
 ghost use Rattle.hpb_outside.specs.Faults.{raised};
 ghost use Rattle.hpb_device.specs.Counts.{counted};
 
-use crate::advance::Progress;
+use crate::advance::{Progress, Transfer};
 use flash_pages::ChipOp;
 
 /// What a device has counted since it was made. Each count stops at 2^64 - 1.
@@ -39,8 +39,8 @@ impl Counts {
             ..self
         };
         match progress {
-            Progress::Shown(_) => counts.looked_up(),
-            Progress::Found(_) => Counts {
+            Progress::Sends(Transfer::LookedUp, _) => counts.looked_up(),
+            Progress::Sends(Transfer::ByEntry, _) => Counts {
                 entries: counts.entries.saturating_add(1),
                 ..counts
             },

@@ -1,11 +1,13 @@
-ghost use Rattle.std.specs.Prelude.{◌≡◌, ◌≤◌, ◌↔◌, ◌<◌, List, [], drop, length, vec_capacity, None, IsTrue, IfOk, IfErr, true, false};
+ghost use Rattle.std.specs.Prelude.{◌≡◌, ◌≤◌, ◌↔◌, ◌<◌, ℕ, Bool, List, [], drop, length, vec_capacity, None, IsTrue, IfOk, IfErr, true, false};
 ghost use Rattle.hpb_outside.specs.Faults.{Rose, raised};
 ghost use Rattle.flash_pages.specs.Chip.{erased_chip};
+ghost use Rattle.flash_pages.specs.Place.{Place};
 ghost use Rattle.region_state.specs.Shape.{IsWithinLimits};
 ghost use Rattle.upiu_wire.specs.Upiu.{Upiu};
 ghost use Rattle.flat_unit.specs.declared.event.Event.TheVariants.{Host};
 ghost use Rattle.flat_unit.specs.History.{History, ◌▹◌, followed_by};
-ghost use Rattle.flat_unit.specs.Replays.{events_of};
+ghost use Rattle.flat_unit.specs.Queue.{tasks_after};
+ghost use Rattle.flat_unit.specs.Replays.{enough, events_of};
 ghost use Rattle.flat_unit.specs.Sound.{answers_to};
 ghost use Rattle.flat_unit.specs.Stands.{First};
 ghost use Rattle.flat_unit.specs.Task.{Task as Waiting};
@@ -23,7 +25,7 @@ use crate::reply::{Reply, put_reply};
 use crate::task::{BURST_BYTES, TASKS, Task};
 use arrayvec::ArrayVec;
 use flash_pages::{ChipOp, Flash};
-use flash_store::Store;
+use flash_store::{Store, can_serve};
 use hpb_cdb::Limits;
 use hpb_outside::NewFault;
 use region_state::Shape;
@@ -115,6 +117,7 @@ impl<F: Flash> Device<F> {
     ghost use Rattle.hpb_device.specs.Calls.{Receives, Steps, TakesData};
     ghost use Rattle.hpb_device.specs.Entries.{EntriesStand};
     ghost use Rattle.hpb_device.specs.Keeps.{KeepsTasks};
+    ghost use Rattle.hpb_device.specs.Listed.{ListingStands};
     ghost use Rattle.hpb_device.specs.Standing.{DeviceStands, sizes_of, answer_events, group_of};
 
     /// A device of `luns` logical units, each of this shape, over an erased chip. It takes all its memory here.
@@ -135,27 +138,25 @@ impl<F: Flash> Device<F> {
         ensures geometry { IfOk result (λ device. device.store.geometry ≡ F.geometry flash) }
         ensures faults { IfOk result (λ device. device.store.faults ≡ F.faults flash) }
         ensures calls { IfOk result (λ device. device.store.calls ≡ F.calls flash) }
-
-        ensures pages_back { IfErr result (λ refused. F.pages refused.0 ≡ F.pages flash) }
-        ensures geometry_back { IfErr result (λ refused. F.geometry refused.0 ≡ F.geometry flash) }
-        ensures faults_back { IfErr result (λ refused. F.faults refused.0 ≡ F.faults flash) }
-        ensures calls_back { IfErr result (λ refused. F.calls refused.0 ≡ F.calls flash) }
+        ensures lookups { IfOk result (λ device. device.store.lookups ≡ 0) }
+        ensures hits { IfOk result (λ device. device.store.hits ≡ 0) }
+        ensures given_back { IfErr result (λ refused. refused.0 ≡ flash) }
     {
-        if !shape.is_within_limits() {
+        if !shape.is_within_limits() || !can_serve(flash.geometry(), luns, shape.units) {
             return Err((flash, NewFault::Geometry));
         }
+        let Ok(held) = Vec::with_capacity(alloc, BURST_BYTES) else {
+            return Err((flash, NewFault::Memory));
+        };
         let store = Store::new(alloc, flash, luns, shape.units)?;
-        match Vec::with_capacity(alloc, BURST_BYTES) {
-            Ok(held) => Ok(Device {
-                store,
-                shape,
-                luns,
-                tasks: ArrayVec::new(),
-                held,
-                counts: Counts::ZERO,
-            }),
-            Err(_) => Err((store.into_flash(), NewFault::Memory)),
-        }
+        Ok(Device {
+            store,
+            shape,
+            luns,
+            tasks: ArrayVec::new(),
+            held,
+            counts: Counts::ZERO,
+        })
     }
 
     /// Gives the chip back.
@@ -177,6 +178,9 @@ impl<F: Flash> Device<F> {
         ensures receives { Receives self.old self.new bytes.now result out.new }
         ensures entries { (e : History) → EntriesStand self.old e
             → EntriesStand self.new (followed_by (e ▹ Host bytes.now) (answer_events result out.new)) }
+        ensures listings { (had : Place → Bool) (pages : ℕ) (first : First) (e : History)
+            → DeviceStands self.old first e → ListingStands had pages self.old e
+            → ListingStands had pages self.new (followed_by (e ▹ Host bytes.now) (answer_events result out.new)) }
         ensures store { self.new.store ≡ self.old.store }
         ensures shape { self.new.shape ≡ self.old.shape }
         ensures counts { self.new.counts ≡ self.old.counts }
@@ -223,8 +227,12 @@ impl<F: Flash> Device<F> {
             → DeviceStands self.new first (followed_by e (events_of (group_of result out.new))) }
         ensures entries { (first : First) (e : History) → DeviceStands self.old first e → EntriesStand self.old e
             → EntriesStand self.new (followed_by e (events_of (group_of result out.new))) }
+        ensures listings { (had : Place → Bool) (pages : ℕ) (first : First) (e : History)
+            → DeviceStands self.old first e → ListingStands had pages self.old e
+            → ListingStands had pages self.new (followed_by e (events_of (group_of result out.new))) }
         ensures idle { IsTrue result.idle ↔ AtRest self.old }
-        ensures nothing { IsTrue result.idle → result ≡ record { idle = true; failed = None; moved = None; sent = false } }
+        ensures nothing { IsTrue result.idle
+            → result ≡ record { idle = true; failed = None; moved = None; sent = false } }
         ensures unchanged { IsTrue result.idle → self.new ≡ self.old }
         ensures steps { Steps self.old self.new result out.new }
         ensures fewer { OnFalse result.idle (steps_left self.new < steps_left self.old) }
@@ -256,6 +264,8 @@ impl<F: Flash> Device<F> {
         ensures nothing { (result ≡ Waits.Nothing) ↔ (self.now.tasks ≡ []) }
         ensures rest { (result ≡ Waits.Step) ↔ ¬ AtRest self.now }
         ensures left { result ≡ Waits.Step → 0 < steps_left self.now }
+        ensures few { (first : First) (e : History) → DeviceStands self.now first e
+            → steps_left self.now ≤ enough (sizes_of self.now) (tasks_after (sizes_of self.now) e) }
     {
         match head_of(&self.tasks) {
             None => Waits::Nothing,
@@ -283,15 +293,11 @@ fn leave(
     ensures room { vec_capacity held.new ≡ vec_capacity held.old }
 {
     match progress {
-        Progress::Shown(rest)
-        | Progress::Found(rest)
-        | Progress::Listed(rest)
-        | Progress::Told(rest)
-        | Progress::Asked(rest) => {
+        Progress::Sends(_, rest) => {
             keep_head(tasks, rest);
             Stepped::of_task(None, true)
         }
-        Progress::Missed(rest) | Progress::Programmed(rest) => {
+        Progress::Silent(_, rest) => {
             keep_head(tasks, rest);
             Stepped::of_task(None, false)
         }

@@ -1,5 +1,6 @@
 ghost use Rattle.std.specs.Prelude.{◌≡◌, ◌+◌, ◌^◌, ◌<◌, ◌↔◌, IsTrue, false};
 ghost use Rattle.hpb_device.specs.Task.{WaitsForData, tries_entry};
+ghost use Rattle.hpb_device.specs.Work.{work_of};
 
 use hpb_cdb::Cdb;
 
@@ -14,6 +15,54 @@ pub const CAPACITY_BYTES: usize = 8;
 
 /// The bytes of an entry.
 pub const ENTRY_BYTES: usize = 8;
+
+/// What the steps of a command do.
+#[derive(Clone, Copy, Debug, PartialEq, Eq)]
+pub enum Work {
+    /// Blocks are read, the first one by an entry where the command has one.
+    ReadBlocks {
+        lba: u32,
+        n: u16,
+        entry: Option<u64>,
+    },
+    /// Blocks are written.
+    WriteBlocks {
+        lba: u32,
+        n: u16,
+    },
+    /// The entries of a subregion are listed.
+    ListEntries {
+        region: u16,
+        sub: u16,
+        len: u32,
+    },
+    /// The capacity of the unit is told.
+    TellCapacity,
+    /// The command is answered at once.
+    AnswerOnly,
+}
+
+/// The work of a command. HPB READ reads as READ(10) does, with an entry for its first block.
+pub fn work_of(command: Cdb) -> Work
+    ensures { result ≡ work_of command }
+{
+    match command {
+        Cdb::Read { lba, n } => Work::ReadBlocks {
+            lba,
+            n,
+            entry: None,
+        },
+        Cdb::HpbRead { lba, entry, n, .. } => Work::ReadBlocks {
+            lba,
+            n: u16::from(n),
+            entry: Some(entry),
+        },
+        Cdb::Write { lba, n } => Work::WriteBlocks { lba, n },
+        Cdb::ReadBuffer { region, sub, len } => Work::ListEntries { region, sub, len },
+        Cdb::Capacity => Work::TellCapacity,
+        _ => Work::AnswerOnly,
+    }
+}
 
 /// A command that is kept, and how far it has come. Offsets and lengths are bytes of its data.
 #[derive(Clone, Copy, Debug, PartialEq, Eq)]
@@ -85,8 +134,12 @@ impl Task {
     pub fn tries_entry(&self) -> bool
         ensures { result ≡ tries_entry self.now }
     {
-        match self.command {
-            Cdb::HpbRead { n, .. } => self.sent == 0 && n != 0 && !self.tried,
+        match work_of(self.command) {
+            Work::ReadBlocks {
+                n,
+                entry: Some(_),
+                ..
+            } => self.sent == 0 && n != 0 && !self.tried,
             _ => false,
         }
     }

@@ -22,19 +22,21 @@ returns-clause-advances g c =
     let count = c.min-count.result in
     let lent : c.deref.result.now ≡ c.push_entries.new.held.items = search rules in
     let counted : count ≡ min 4096 (task.given - task.sent) = search rules in
-    let first : c.first_listed.result ≡ first_listed c.args.limits task.command = c.first_listed.ensures in
+    let first : c.first_listed.result ≡ first_listed c.args.limits task.command = c.first_listed.ensures ∙ sym (ap (first_listed c.args.limits) c.requires.command.1) in
     let enough : c.div_ceil-entries.result ≡ (count + 7) / 8 = search rules in
     let listed : c.push_entries.new.held.items ≡ entries_of c.args.store.now.pages task.lun (first_listed c.args.limits task.command + task.sent / 8) ((count + 7) / 8) =
     c.push_entries.ensures.entries ∙ (ap (λ (n : ℕ). entries_of c.args.store.now.pages task.lun (n + task.sent / 8) c.div_ceil-entries.result) first
     ∙ ap (entries_of c.args.store.now.pages task.lun (first_listed c.args.limits task.command + task.sent / 8)) enough) in (
-      count,
-      record {
-        read_buffer = c.requires.command;
-        more = search rules;
-        counted = counted;
-        sent = c.put_data_in.ensures.written ∙ ap (λ (bytes : List ℕ). upiu_out (data_upiu DataIn task.lun task.tag task.sent (take count bytes))) (lent ∙ listed);
-        task_is = refl;
-      },
+      (
+        count,
+        record {
+          read_buffer = (c.args.region, c.args.sub, c.requires.command.0, c.requires.command.1);
+          more = search rules;
+          counted = counted;
+          sent = c.put_data_in.ensures.written ∙ ap (λ (bytes : List ℕ). upiu_out (data_upiu DataIn task.lun task.tag task.sent (take count bytes))) (lent ∙ listed);
+          task_is = refl;
+        },
+      ),
       c.push_entries.ensures.pages,
       c.clear.ensures.items,
     )
@@ -46,22 +48,19 @@ returns-clause-ok g c =
     let count = c.min-count.result in
     let more : task.sent < task.given = search rules in
     let counted : count ≡ min 4096 (task.given - task.sent) = search rules in
-    let whole : ((task.sent + count) % 4096 ≡ 0) ⊎ (task.sent + count ≡ task.given) = elim ok.whole_sent [
+    let whole : ((task.sent + count) % 4096 ≡ 0) ⊎ (task.sent + count ≡ task.given) = elim ok.within.whole_sent [
       | inl part ↦ listed_whole task.sent task.given count part more counted
       | inr all ↦ absurd (omega (arith, all, more))
     ] in
     record {
-      lun = ok.lun;
-      served = ok.served;
-      few_blocks = ok.few_blocks;
-      expected_fits = ok.expected_fits;
-      given = ok.given;
-      fits = ok.fits;
-      asked = ok.asked;
-      whole_asked = ok.whole_asked;
-      come = ok.come;
-      programmed = ok.programmed;
-      sent = omega (arith, more, counted);
-      whole_sent = whole;
-      tried = search rules;
+      accepted = ok.accepted;
+      within = record {
+        asked = ok.within.asked;
+        whole_asked = ok.within.whole_asked;
+        come = ok.within.come;
+        programmed = ok.within.programmed;
+        sent = omega (arith, more, counted);
+        whole_sent = whole;
+        tried = search rules;
+      };
     }

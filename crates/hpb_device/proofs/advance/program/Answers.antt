@@ -24,13 +24,15 @@ returns-in-Ok-Done-clause-advances g c =
     ≡ slice_set (unit_of c.args.store.now.luns c.args.store.now.units c.args.store.now.pages) (index_of c.args.store.now.units (at lba)) bytes in
     let unit : Unit c.args.lba = search rules in
     λ out. (
-      start,
-      record {
-        more = c.requires.more;
-        starts = omega (arith, c.requires.held.rest);
-        program = subst Written (sym moves.first) written;
-        unit = subst Unit (sym moves.first) unit;
-        task_is = refl;
-      },
+      (
+        start,
+        record {
+          more = c.requires.more;
+          starts = omega (arith, c.requires.held.rest);
+          program = subst Written (sym moves.first) written;
+          unit = subst Unit (sym moves.first) unit;
+          task_is = refl;
+        },
+      ),
       refl,
     )

@@ -1,9 +1,12 @@
-use Rattle.std.proofs.Common.{◌≡◌, ℕ, ◌+◌, ◌-◌, ◌*◌, ◌<◌, ◌++◌, List, length, arith, sym, rules, ap, ◌∙◌}
+use Rattle.std.proofs.Common.{◌≡◌, ℕ, ◌+◌, ◌-◌, ◌*◌, ◌<◌, ◌++◌, List, length, suc, arith, sym, rules, ap, ◌∙◌}
 use Rattle.byteorder.specs.Endian.{big_bytes}
+use Rattle.hpb_outside.specs.Faults.{raised}
 use Rattle.flash_pages.specs.Place.{Place}
 use Rattle.flash_store.specs.Entries.{entry_for}
+use Rattle.flash_store.specs.Store.{StoreState}
 use Rattle.flat_unit.proofs.Listing.{length-entries_from, entries_more}
 use Rattle.hpb_device.specs.Advance.{entries_of}
+use Rattle.hpb_device.specs.StoreCounts.{raised_times}
 use Rattle.hpb_device.proofs.advance.push_entries.Goals as goal
 
 pub unwrap-requires : goal.unwrap-requires
@@ -20,6 +23,7 @@ loop-lba-preserved g c =
     let entry_at : ℕ → ℕ = λ lba. let p : Place = record { lun = c.args.lun; lba = lba } in entry_for c.args.store.now.pages p in
     let next : c.args.first + count ≡ c.loop-lba.lba = omega (arith, c.loop-lba.invariant.from) in
     let one_more : c.loop-lba.lba + 1 - c.args.first ≡ count + 1 = omega (arith, c.loop-lba.invariant.from) in
+    let next_count : c.loop-lba.lba + 1 - c.args.first ≡ suc count = omega (arith, c.loop-lba.invariant.from) in
     let entry : c.entry_of.result ≡ entry_at (c.args.first + count) = search rules in
     let bytes : c.to_be_bytes.result ≡ big_bytes 8 c.entry_of.result = search rules in
     let added : c.extend_from_slice.new.self.items ≡ c.loop-lba.held.items ++ c.to_be_bytes.result = search rules in
@@ -32,5 +36,13 @@ loop-lba-preserved g c =
       same = search rules;
       calls = search rules;
       faults = search rules;
+      lookups = ap (λ (z : StoreState). z.lookups) c.entry_of.ensures.counted
+          ∙ (ap raised c.loop-lba.invariant.lookups ∙ ap (λ (n : ℕ). raised_times n c.args.store.now.lookups) (sym next_count));
+      hits = ap (λ (z : StoreState). z.hits) c.entry_of.ensures.counted ∙ c.loop-lba.invariant.hits;
       room = search rules;
     }
+
+pub returns-clause-lookups : goal.returns-clause-lookups
+returns-clause-lookups g c =
+    let all : c.loop-lba.lba - c.args.first ≡ c.args.count = omega (arith, c.loop-lba.invariant.from) in
+    c.loop-lba.invariant.lookups ∙ ap (λ (n : ℕ). raised_times n c.args.store.now.lookups) all

@@ -1,6 +1,7 @@
 use Rattle.std.proofs.Common.{◌≡◌, ◌-◌, ◌≤◌}
 use Rattle.std.specs.Prelude.{vec_capacity}
 use Rattle.hpb_device.specs.Advance.{IsSameStore, entries_of}
+use Rattle.hpb_device.specs.StoreCounts.{raised_times}
 use Rattle.hpb_device.proofs.advance.push_entries.Given as goal
 
 -- the entries of the blocks so far are there
@@ -12,5 +13,7 @@ invariant-loop-lba g l = record {
   same : IsSameStore l.fn.store l.store;
   calls : l.store.calls ≡ l.fn.store.calls;
   faults : l.store.faults ≡ l.fn.store.faults;
+  lookups : l.store.lookups ≡ raised_times (l.lba - l.fn.first) l.fn.store.lookups;
+  hits : l.store.hits ≡ l.fn.store.hits;
   room : vec_capacity l.fn.held ≤ vec_capacity l.held;
 }

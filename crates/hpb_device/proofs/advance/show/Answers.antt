@@ -1,16 +1,17 @@
 use Rattle.std.proofs.Common.{ℕ, ◌+◌, ◌/◌, ◌<◌, List, length, arith, sym, rules, refl, ap, ◌∙◌}
+use Rattle.hpb_outside.specs.Faults.{Rose}
 use Rattle.flash_pages.specs.Place.{Place}
 use Rattle.flash_pages.specs.Unit.{block_of}
 use Rattle.upiu_wire.specs.Upiu.{upiu_out}
 use Rattle.upiu_wire.specs.Written.{data_upiu}
 use Rattle.upiu_wire.specs.declared.kind.Kind.TheVariants.{DataIn}
-use Rattle.hpb_device.proofs.Commands.{block_fewer, block_ok, reads}
+use Rattle.hpb_device.proofs.Commands.{block_fewer, block_ok, read_fails, reads, reads_looked_up}
 use Rattle.hpb_device.proofs.advance.show.Goals as goal
 
 pub overflow_add-lba : goal.overflow_add-lba
 overflow_add-lba g c =
     let moves = reads c.args.store.now.luns c.args.limits c.args.task c.requires.task c.requires.reads in
-    omega (arith, moves.range, moves.gives, c.requires.first, c.requires.task.sent)
+    omega (arith, moves.range, moves.gives, c.requires.first, c.requires.task.within.sent)
 
 pub read_mapped-requires-clause-lba : goal.read_mapped-requires-clause-lba
 read_mapped-requires-clause-lba g c =
@@ -40,6 +41,15 @@ returns-in-Ok-clause-advances g c =
       search rules,
       refl,
     )
+
+pub returns-in-Err-clause-advances : goal.returns-in-Err-clause-advances
+returns-in-Err-clause-advances g c = λ held.
+    let old = c.args.store.now in
+    let new = c.read_mapped.follows.lender-at-none in
+    let task = c.args.task in
+    let due = reads_looked_up old task c.args.lba c.requires.untried c.requires.first c.in-Err.ensures.called in
+    let rose : Rose old.faults new.faults = search rules in
+    (read_fails old new task c.check.result c.requires.reads (search rules) due rose c.check.ensures, search rules)
 
 pub returns-in-Ok-clause-ok : goal.returns-in-Ok-clause-ok
 returns-in-Ok-clause-ok g c =

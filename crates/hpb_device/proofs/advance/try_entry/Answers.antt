@@ -26,7 +26,7 @@ returns-in-Ok-Some-clause-advances g c =
         honoured = subst (λ (p : Place). IsHonoured c.args.store.now.pages p (entry_given task.command)) first (subst (λ (n : ℕ). IsHonoured c.args.store.now.pages (at c.args.lba) n) (sym c.requires.entry) honoured);
         sends = record {
           reads = tries.reads;
-          more = omega (arith, tries.none_sent, tries.some, c.requires.task.given);
+          more = omega (arith, tries.none_sent, tries.some, c.requires.task.accepted.given);
           size = ap (λ (xs : List ℕ). length xs) (sym block) ∙ whole;
           sent = c.put_data_in.ensures.written ∙ ap (λ (bytes : List ℕ). upiu_out (data_upiu DataIn task.lun task.tag task.sent bytes)) block;
           task_is = c.with_block.ensures;
@@ -40,13 +40,13 @@ pub returns-in-Ok-Some-clause-ok : goal.returns-in-Ok-Some-clause-ok
 returns-in-Ok-Some-clause-ok g c =
     let task = c.args.task in
     let tries = tries_of c.args.limits task.command task c.requires.tries in
-    rw c.with_block.ensures (block_ok c.args.store.now.luns c.args.limits task c.requires.task tries.reads (omega (arith, tries.none_sent, tries.some, c.requires.task.given)))
+    rw c.with_block.ensures (block_ok c.args.store.now.luns c.args.limits task c.requires.task tries.reads (omega (arith, tries.none_sent, tries.some, c.requires.task.accepted.given)))
 
 pub returns-in-Ok-Some-clause-fewer : goal.returns-in-Ok-Some-clause-fewer
 returns-in-Ok-Some-clause-fewer g c =
     let task = c.args.task in
     let tries = tries_of c.args.limits task.command task c.requires.tries in
-    rw c.with_block.ensures (block_fewer c.args.store.now.luns c.args.limits task c.requires.task tries.reads (omega (arith, tries.none_sent, tries.some, c.requires.task.given)))
+    rw c.with_block.ensures (block_fewer c.args.store.now.luns c.args.limits task c.requires.task tries.reads (omega (arith, tries.none_sent, tries.some, c.requires.task.accepted.given)))
 
 pub returns-in-Ok-None-clause-advances : goal.returns-in-Ok-None-clause-advances
 returns-in-Ok-None-clause-advances g c =
@@ -55,12 +55,14 @@ returns-in-Ok-None-clause-advances g c =
     let first : at c.args.lba ≡ nth_place task 0 = ap at (omega (arith, c.requires.first)) in
     let refused : ¬ IsHonoured c.args.store.now.pages (at c.args.lba) c.args.entry = search rules in
     λ held. (
-      record {
-        tries = c.requires.tries;
-        refused = subst (λ (p : Place). ¬ IsHonoured c.args.store.now.pages p (entry_given task.command)) first (subst (λ (n : ℕ). ¬ IsHonoured c.args.store.now.pages (at c.args.lba) n) (sym c.requires.entry) refused);
-        task_is = refl;
-      },
-      search rules,
+      (
+        record {
+          tries = c.requires.tries;
+          refused = subst (λ (p : Place). ¬ IsHonoured c.args.store.now.pages p (entry_given task.command)) first (subst (λ (n : ℕ). ¬ IsHonoured c.args.store.now.pages (at c.args.lba) n) (sym c.requires.entry) refused);
+          task_is = refl;
+        },
+        search rules,
+      ),
       refl,
     )
 

@@ -11,6 +11,7 @@ use Rattle.hpb_device.specs.declared.task.Task.{Task}
 use Rattle.hpb_device.specs.declared.reply.Reply.{Reply}
 use Rattle.hpb_device.specs.declared.reply.Reply.TheVariants.{Check}
 use Rattle.hpb_device.specs.declared.reply.Cause.TheVariants.{DataNotAsked}
+use Rattle.hpb_device.specs.declared.accept.Verdict.TheVariants.{Keep, Data, Answer, End}
 use Rattle.hpb_device.specs.Accept.{EndsFirst, TakesPiece, IsBegun, IsKept, IsTaken, IsAnswered}
 use Rattle.hpb_device.specs.Calls.{EndsHead, Keeps, TakesData}
 use Rattle.hpb_device.specs.Keeps.{KeepsTasks}
@@ -19,11 +20,17 @@ use Rattle.hpb_device.specs.Standing.{sizes_of, DeviceStands}
 use Rattle.hpb_device.specs.State.{DeviceState, steps_left}
 use Rattle.hpb_device.proofs.Commands.{ends}
 use Rattle.hpb_device.proofs.Entries.{answered_entries, ending_entries, kept_entries}
+use Rattle.hpb_device.proofs.Listings.{answered_listings, ending_listings, kept_listings}
+use Rattle.hpb_device.specs.Listed.{ListingStands}
+use Rattle.flat_unit.specs.declared.event.Event.TheVariants.{Host, Device}
+use Rattle.flat_unit.specs.History.{◌▹◌}
 use Rattle.hpb_device.specs.Entries.{EntriesStand}
 use Rattle.hpb_device.proofs.Going.{keeps_left}
 use Rattle.hpb_device.proofs.Leaving.{ended_left}
-use Rattle.hpb_device.proofs.Receiving.{queue_more, waits_begun, stands_kept, stands_with_data, stands_with_reply, stands_without_head, owes_events, no_effects, device_is, sizes_are, stands_same, answers_same}
+use Rattle.hpb_device.proofs.ReceiveStands.{queue_more, waits_begun, stands_kept, stands_with_data, stands_with_reply, stands_without_head, owes_events, no_effects, device_is, follows_at, stands_same, answers_same}
 use Rattle.hpb_device.specs.Limits.{limits_of}
+use Rattle.hpb_device.proofs.device.Device.receive.Given.{Over}
+use Rattle.hpb_device.proofs.device.Device.receive.Goals.{After-put_reply-in-End}
 use Rattle.hpb_device.proofs.device.Device.receive.Goals as goal
 
 pub invariant_of-self : goal.invariant_of-self
@@ -49,9 +56,7 @@ returns-in-Keep-clause-stands g c = λ first e at.
     let d : DeviceState = record { store = s.store; shape = s.shape; tasks = s.tasks.items; held = s.held.items; counts = s.counts } in
     let lent : c.deref.result.now ≡ d.tasks = search rules in
     let before : DeviceStands d first e = subst (λ (x : DeviceState). DeviceStands x first e) (sym c.self.view_is) at in
-    let sized = sizes_are d c.limits_of-limits.result s.luns c.limits_of-limits.ensures c.self.invariant.luns_served in
-    let kept : (tasks : List Waiting) → KeepsTasks d.tasks d.held tasks → IsKept (sizes_of d) tasks c.args.bytes.now c.in-Keep.task =
-    λ tasks keeps. subst (λ (z : Sizes). IsKept z tasks c.args.bytes.now c.in-Keep.task) sized (c.in-Keep.ensures.follows s.store.geometry d.held tasks (subst (λ (ts : List Task). KeepsTasks ts d.held tasks) (sym lent) keeps)) in
+    let kept = follows_at d c.limits_of-limits.result s.luns c.deref.result.now c.args.bytes.now (Keep c.in-Keep.task) c.limits_of-limits.ensures c.self.invariant.luns_served lent c.in-Keep.ensures.follows in
     let queue : IsQueue s.luns c.limits_of-limits.result d.held d.tasks = subst (λ (lim : Limits). IsQueue s.luns lim d.held d.tasks) (sym c.limits_of-limits.ensures) c.self.invariant.queue in
     let now = stands_kept d c.in-Keep.task c.args.bytes.now c.limits_of-limits.result s.luns first e queue c.in-Keep.ensures.verdict.1 kept before in
     rw c.push.ensures.items now
@@ -70,9 +75,7 @@ returns-in-Data-clause-stands g c = λ first e at.
     let lent : c.deref.result.now ≡ d.tasks = search rules in
     let segment = c.in-Data.segment.now in
     let before : DeviceStands d first e = subst (λ (x : DeviceState). DeviceStands x first e) (sym c.self.view_is) at in
-    let sized = sizes_are d c.limits_of-limits.result s.luns c.limits_of-limits.ensures c.self.invariant.luns_served in
-    let taken : (tasks : List Waiting) → KeepsTasks d.tasks d.held tasks → IsTaken (sizes_of d) tasks c.args.bytes.now segment =
-    λ tasks keeps. subst (λ (z : Sizes). IsTaken z tasks c.args.bytes.now segment) sized (c.in-Data.ensures.follows s.store.geometry d.held tasks (subst (λ (ts : List Task). KeepsTasks ts d.held tasks) (sym lent) keeps)) in
+    let taken = follows_at d c.limits_of-limits.result s.luns c.deref.result.now c.args.bytes.now (Data c.in-Data.segment) c.limits_of-limits.ensures c.self.invariant.luns_served lent c.in-Data.ensures.follows in
     let data_taken : TakesData c.args.self.now c.take_data.new.self segment = c.take_data.ensures.taken in
     let task = data_taken.task in
     let others = data_taken.others in
@@ -91,9 +94,7 @@ returns-in-Answer-clause-stands g c = λ first e at.
     let d : DeviceState = record { store = s.store; shape = s.shape; tasks = s.tasks.items; held = s.held.items; counts = s.counts } in
     let lent : c.deref.result.now ≡ d.tasks = search rules in
     let before : DeviceStands d first e = subst (λ (x : DeviceState). DeviceStands x first e) (sym c.self.view_is) at in
-    let sized = sizes_are d c.limits_of-limits.result s.luns c.limits_of-limits.ensures c.self.invariant.luns_served in
-    let answered : (tasks : List Waiting) → KeepsTasks d.tasks d.held tasks → IsAnswered (sizes_of d) tasks c.args.bytes.now c.in-Answer.reply =
-    λ tasks keeps. subst (λ (z : Sizes). IsAnswered z tasks c.args.bytes.now c.in-Answer.reply) sized (c.in-Answer.ensures.follows s.store.geometry d.held tasks (subst (λ (ts : List Task). KeepsTasks ts d.held tasks) (sym lent) keeps)) in
+    let answered = follows_at d c.limits_of-limits.result s.luns c.deref.result.now c.args.bytes.now (Answer c.in-Answer.reply) c.limits_of-limits.ensures c.self.invariant.luns_served lent c.in-Answer.ensures.follows in
     let now = stands_with_reply d c.args.bytes.now c.in-Answer.reply c.put_reply.new.out first e c.put_reply.ensures answered before in
     stands_same _ _ _ _ c.self.view_is now
 
@@ -102,9 +103,8 @@ returns-in-Answer-clause-answers g c = λ tasks keeps.
     let s = c.self.inside in
     let d : DeviceState = record { store = s.store; shape = s.shape; tasks = s.tasks.items; held = s.held.items; counts = s.counts } in
     let lent : c.deref.result.now ≡ d.tasks = search rules in
-    let sized = sizes_are d c.limits_of-limits.result s.luns c.limits_of-limits.ensures c.self.invariant.luns_served in
     let before : KeepsTasks d.tasks d.held tasks = subst (λ (x : DeviceState). KeepsTasks x.tasks x.held tasks) (sym c.self.view_is) keeps in
-    let answered = subst (λ (z : Sizes). IsAnswered z tasks c.args.bytes.now c.in-Answer.reply) sized (c.in-Answer.ensures.follows s.store.geometry d.held tasks (subst (λ (ts : List Task). KeepsTasks ts d.held tasks) (sym lent) before)) in
+    let answered = follows_at d c.limits_of-limits.result s.luns c.deref.result.now c.args.bytes.now (Answer c.in-Answer.reply) c.limits_of-limits.ensures c.self.invariant.luns_served lent c.in-Answer.ensures.follows tasks before in
     let now = owes_events (sizes_of d) tasks c.args.bytes.now (reply_upiu c.in-Answer.reply) c.put_reply.new.out answered.answers (no_effects d.store.luns (limits_of d.shape) d.store.geometry tasks c.args.bytes.now) c.put_reply.ensures in
     answers_same _ _ _ _ _ c.self.view_is now
 
@@ -125,18 +125,23 @@ returns-in-Keep-clause-receives g c =
     let keeps : Keeps d now c.args.bytes.now = record { task = task; room = subst (λ (ts : List Task). length ts < 32) lent c.in-Keep.ensures.verdict.0; begun = begun; kept = pushed; held = refl; left = left } in
     inl (subst (λ (x : DeviceState). Keeps x now c.args.bytes.now) c.self.view_is keeps)
 
-pub returns-in-End-clause-receives : goal.returns-in-End-clause-receives
-returns-in-End-clause-receives g c =
+-- the device without its head
+abbrev now_of : (g : Over) → After-put_reply-in-End g → DeviceState
+now_of g c = let s = c.self.inside in record { store = s.store; shape = s.shape; tasks = c.end_head.new.tasks.items; held = c.end_head.new.held.items; counts = s.counts }
+
+-- the head has ended
+ends_it : (g : Over) (c : After-put_reply-in-End g) → EndsHead c.args.self.now (now_of g c) c.put_reply-in-End.new.out
+ends_it g c =
     let s = c.self.inside in
     let d : DeviceState = record { store = s.store; shape = s.shape; tasks = s.tasks.items; held = s.held.items; counts = s.counts } in
     let lent : c.deref.result.now ≡ d.tasks = search rules in
     let ended = ends d.tasks c.in-End.reply (subst (λ (ts : List Task). EndsFirst ts c.in-End.reply) lent c.in-End.ensures.verdict) in
-    let now : DeviceState = record { store = s.store; shape = s.shape; tasks = c.end_head.new.tasks.items; held = c.end_head.new.held.items; counts = s.counts } in
+    let now = now_of g c in
     let sent = c.put_reply-in-End.ensures ∙ ap (λ (r : Reply). upiu_out (reply_upiu r)) ended.4.2 in
     let gone : now.tasks ≡ ended.1 = c.end_head.ensures.tasks ∙ ap (drop 1) ended.2 in
     let fewer : steps_left now < steps_left d =
     ended_left (limits_of d.shape) d.tasks now.tasks ended.0 ended.1 ended.2 gone in
-    let ends_it : EndsHead d now c.put_reply-in-End.new.out = record {
+    let head : EndsHead d now c.put_reply-in-End.new.out = record {
       task = ended.0;
       others = ended.1;
       was = ended.2;
@@ -146,7 +151,10 @@ returns-in-End-clause-receives g c =
       answer = sent;
       left = fewer;
     } in
-    inr (subst (λ (x : DeviceState). EndsHead x now c.put_reply-in-End.new.out) c.self.view_is ends_it)
+    subst (λ (x : DeviceState). EndsHead x now c.put_reply-in-End.new.out) c.self.view_is head
+
+pub returns-in-End-clause-receives : goal.returns-in-End-clause-receives
+returns-in-End-clause-receives g c = inr (ends_it g c)
 
 pub returns-in-End-clause-stands : goal.returns-in-End-clause-stands
 returns-in-End-clause-stands g c = λ first e at.
@@ -154,11 +162,11 @@ returns-in-End-clause-stands g c = λ first e at.
     let d : DeviceState = record { store = s.store; shape = s.shape; tasks = s.tasks.items; held = s.held.items; counts = s.counts } in
     let lent : c.deref.result.now ≡ d.tasks = search rules in
     let before : DeviceStands d first e = subst (λ (x : DeviceState). DeviceStands x first e) (sym c.self.view_is) at in
-    let sized = sizes_are d c.limits_of-limits.result s.luns c.limits_of-limits.ensures c.self.invariant.luns_served in
     let ended = ends d.tasks c.in-End.reply (subst (λ (ts : List Task). EndsFirst ts c.in-End.reply) lent c.in-End.ensures.verdict) in
     let queue = subst (IsQueue s.luns (limits_of s.shape) d.held) ended.2 c.self.invariant.queue in
-    let answers : (tasks : List Waiting) → KeepsTasks d.tasks d.held tasks → reply_of (sizes_of d) true tasks c.args.bytes.now ≡ Some (reply_upiu (Check ended.0.lun ended.0.tag ended.4.0 DataNotAsked)) =
-    λ tasks keeps. subst (λ (z : Sizes). reply_of z true tasks c.args.bytes.now ≡ Some (reply_upiu c.in-End.reply)) sized (c.in-End.ensures.follows s.store.geometry d.held tasks (subst (λ (ts : List Task). KeepsTasks ts d.held tasks) (sym lent) keeps))
+    let answers : (tasks : List Waiting) → KeepsTasks d.tasks d.held tasks
+    → reply_of (sizes_of d) true tasks c.args.bytes.now ≡ Some (reply_upiu (Check ended.0.lun ended.0.tag ended.4.0 DataNotAsked)) =
+    λ tasks keeps. follows_at d c.limits_of-limits.result s.luns c.deref.result.now c.args.bytes.now (End c.in-End.reply) c.limits_of-limits.ensures c.self.invariant.luns_served lent c.in-End.ensures.follows tasks keeps
     ∙ ap (λ (r : Reply). Some (reply_upiu r)) ended.4.2 in
     let sent = c.put_reply-in-End.ensures ∙ ap (λ (r : Reply). upiu_out (reply_upiu r)) ended.4.2 in
     let gone : c.end_head.new.tasks.items ≡ ended.1 = c.end_head.ensures.tasks ∙ ap (drop 1) ended.2 in
@@ -170,9 +178,8 @@ returns-in-End-clause-answers g c = λ tasks keeps.
     let s = c.self.inside in
     let d : DeviceState = record { store = s.store; shape = s.shape; tasks = s.tasks.items; held = s.held.items; counts = s.counts } in
     let lent : c.deref.result.now ≡ d.tasks = search rules in
-    let sized = sizes_are d c.limits_of-limits.result s.luns c.limits_of-limits.ensures c.self.invariant.luns_served in
     let before : KeepsTasks d.tasks d.held tasks = subst (λ (x : DeviceState). KeepsTasks x.tasks x.held tasks) (sym c.self.view_is) keeps in
-    let answers = subst (λ (z : Sizes). reply_of z true tasks c.args.bytes.now ≡ Some (reply_upiu c.in-End.reply)) sized (c.in-End.ensures.follows s.store.geometry d.held tasks (subst (λ (ts : List Task). KeepsTasks ts d.held tasks) (sym lent) before)) in
+    let answers = follows_at d c.limits_of-limits.result s.luns c.deref.result.now c.args.bytes.now (End c.in-End.reply) c.limits_of-limits.ensures c.self.invariant.luns_served lent c.in-End.ensures.follows tasks before in
     let now = owes_events (sizes_of d) tasks c.args.bytes.now (reply_upiu c.in-End.reply) c.put_reply-in-End.new.out answers (no_effects d.store.luns (limits_of d.shape) d.store.geometry tasks c.args.bytes.now) c.put_reply-in-End.ensures in
     answers_same _ _ _ _ _ c.self.view_is now
 
@@ -181,27 +188,39 @@ returns-in-Answer-clause-entries g c = λ e stand. answered_entries c.args.self.
 
 pub returns-in-End-clause-entries : goal.returns-in-End-clause-entries
 returns-in-End-clause-entries g c = λ e stand.
-    let s = c.self.inside in
-    let d : DeviceState = record { store = s.store; shape = s.shape; tasks = s.tasks.items; held = s.held.items; counts = s.counts } in
-    let lent : c.deref.result.now ≡ d.tasks = search rules in
-    let ended = ends d.tasks c.in-End.reply (subst (λ (ts : List Task). EndsFirst ts c.in-End.reply) lent c.in-End.ensures.verdict) in
-    let now : DeviceState = record { store = s.store; shape = s.shape; tasks = c.end_head.new.tasks.items; held = c.end_head.new.held.items; counts = s.counts } in
-    let gone : now.tasks ≡ ended.1 = c.end_head.ensures.tasks ∙ ap (drop 1) ended.2 in
-    let ends_it : EndsHead d now c.put_reply-in-End.new.out = record {
-      task = ended.0;
-      others = ended.1;
-      was = ended.2;
-      waited = ended.3;
-      ended = gone;
-      residual = ended.4.0;
-      answer = c.put_reply-in-End.ensures ∙ ap (λ (r : Reply). upiu_out (reply_upiu r)) ended.4.2;
-      left = ended_left (limits_of d.shape) d.tasks now.tasks ended.0 ended.1 ended.2 gone;
-    } in
-    ending_entries d now s.luns (limits_of s.shape) c.args.bytes.now c.in-End.reply c.put_reply-in-End.new.out e c.self.invariant.queue ends_it c.put_reply-in-End.ensures refl refl
-    (subst (λ (x : DeviceState). EntriesStand x e) (sym c.self.view_is) stand)
+    let d = c.args.self.now in
+    let queue : IsQueue c.self.inside.luns (limits_of d.shape) d.held d.tasks = subst (λ (x : DeviceState). IsQueue c.self.inside.luns (limits_of x.shape) x.held x.tasks) c.self.view_is c.self.invariant.queue in
+    let store = ap (λ (x : DeviceState). x.store) c.self.view_is in
+    let shape = ap (λ (x : DeviceState). x.shape) c.self.view_is in
+    ending_entries d (now_of g c) c.self.inside.luns (limits_of d.shape) c.args.bytes.now c.in-End.reply c.put_reply-in-End.new.out e queue (ends_it g c) c.put_reply-in-End.ensures store shape stand
 
 pub returns-in-Keep-clause-entries : goal.returns-in-Keep-clause-entries
 returns-in-Keep-clause-entries g c = λ e stand.
     let store = ap (λ (x : DeviceState). x.store) c.self.view_is in
     let shape = ap (λ (x : DeviceState). x.shape) c.self.view_is in
     kept_entries c.args.self.now _ c.args.bytes.now e (returns-in-Keep-clause-receives g c) store shape stand
+
+pub returns-in-Answer-clause-listings : goal.returns-in-Answer-clause-listings
+returns-in-Answer-clause-listings g c = λ had pages first e at stand.
+    let s = c.self.inside in
+    let d : DeviceState = record { store = s.store; shape = s.shape; tasks = s.tasks.items; held = s.held.items; counts = s.counts } in
+    let lent : c.deref.result.now ≡ d.tasks = search rules in
+    let before : DeviceStands d first e = subst (λ (x : DeviceState). DeviceStands x first e) (sym c.self.view_is) at in
+    let answered = follows_at d c.limits_of-limits.result s.luns c.deref.result.now c.args.bytes.now (Answer c.in-Answer.reply) c.limits_of-limits.ensures c.self.invariant.luns_served lent c.in-Answer.ensures.follows in
+    let now = answered_listings had pages d c.args.bytes.now c.in-Answer.reply c.put_reply.new.out first e answered c.put_reply.ensures before
+    (subst (λ (x : DeviceState). ListingStands had pages x e) (sym c.self.view_is) stand) in
+    subst (λ (x : DeviceState). ListingStands had pages x (e ▹ Host c.args.bytes.now ▹ Device c.put_reply.new.out)) c.self.view_is now
+
+pub returns-in-End-clause-listings : goal.returns-in-End-clause-listings
+returns-in-End-clause-listings g c = λ had pages first e at stand.
+    let d = c.args.self.now in
+    let queue : IsQueue c.self.inside.luns (limits_of d.shape) d.held d.tasks = subst (λ (x : DeviceState). IsQueue c.self.inside.luns (limits_of x.shape) x.held x.tasks) c.self.view_is c.self.invariant.queue in
+    let store = ap (λ (x : DeviceState). x.store) c.self.view_is in
+    let shape = ap (λ (x : DeviceState). x.shape) c.self.view_is in
+    ending_listings had pages d (now_of g c) c.self.inside.luns (limits_of d.shape) c.args.bytes.now c.put_reply-in-End.new.out e queue (ends_it g c) store shape stand
+
+pub returns-in-Keep-clause-listings : goal.returns-in-Keep-clause-listings
+returns-in-Keep-clause-listings g c = λ had pages first e at stand.
+    let store = ap (λ (x : DeviceState). x.store) c.self.view_is in
+    let shape = ap (λ (x : DeviceState). x.shape) c.self.view_is in
+    kept_listings had pages c.args.self.now _ c.args.bytes.now e (returns-in-Keep-clause-receives g c) store shape stand

@@ -24,7 +24,8 @@ use Rattle.hpb_device.specs.declared.task.Task.{Task}
 use Rattle.hpb_device.specs.declared.reply.Reply.{Reply}
 use Rattle.hpb_device.specs.declared.reply.Reply.TheVariants.{Check}
 use Rattle.hpb_device.specs.declared.reply.Cause.TheVariants.{DataNotAsked}
-use Rattle.hpb_device.specs.Accept.{IsBegun, IsKept, IsTaken, IsAnswered}
+use Rattle.hpb_device.specs.declared.accept.Verdict.{Verdict}
+use Rattle.hpb_device.specs.Accept.{Follows, IsBegun, IsKept, IsTaken, IsAnswered}
 use Rattle.hpb_device.specs.Keeps.{KeepsTasks, IsTaskOf, waiting_of}
 use Rattle.hpb_device.specs.Limits.{limits_of}
 use Rattle.hpb_device.specs.Reply.{reply_upiu}
@@ -33,7 +34,7 @@ use Rattle.hpb_device.specs.Standing.{sizes_of, kept_of, programmed_of, DeviceSt
 use Rattle.hpb_device.specs.State.{DeviceState}
 use Rattle.hpb_device.specs.Task.{IsWaiting, IsQueue}
 use Rattle.hpb_device.proofs.Leaving.{waiting_queue}
-use Rattle.hpb_device.proofs.Stepping.{keeps_waiting, none_programmed}
+use Rattle.hpb_device.proofs.StepStands.{keeps_waiting, none_programmed}
 
 -- no request but a command does anything
 pub no_effects : (luns : ℕ) (lim : Limits) (geometry : Geometry) (tasks : List Waiting) (bytes : List ℕ) → effects_of (sizes luns lim geometry) true tasks bytes ≡ []
@@ -63,7 +64,8 @@ keeps_more luns lim [] held tasks task queue is keeps =
 keeps_more luns lim (head ∷ others) held tasks task queue is keeps =
     (keeps.0, keeps.1, ap (λ (ts : List Waiting). ts ++ waiting_of task ∷ []) keeps.2 ∙ ap (λ (ts : List Waiting). keeps.0 ∷ ts) (sym (waiting_more others task)))
 
-waiting_all : (luns : ℕ) (lim : Limits) (others : List Task) (task : Task) → AllByRecursion (IsWaiting luns lim) others → IsWaiting luns lim task → AllByRecursion (IsWaiting luns lim) (others ++ task ∷ [])
+waiting_all : (luns : ℕ) (lim : Limits) (others : List Task) (task : Task) → AllByRecursion (IsWaiting luns lim) others → IsWaiting luns lim task
+    → AllByRecursion (IsWaiting luns lim) (others ++ task ∷ [])
 waiting_all luns lim [] task all is = (is, tt)
 waiting_all luns lim (next ∷ others) task all is = (all.0, waiting_all luns lim others task all.1 is)
 
@@ -93,7 +95,7 @@ pub stands_kept : (d : DeviceState) (task : Task) (bytes : List ℕ) (lim : Limi
 stands_kept d task bytes lim luns first e queue begun follows at =
     let kept = follows at.tasks at.keeps in
     let v = upiu_at bytes in
-    let now = stands_accepted (sizes_of d) first (kept_of d at.tasks) e bytes task.command kept.silent kept.kind kept.command at.stands in
+    let now = stands_accepted (sizes_of d) first (kept_of at.erases d at.tasks) e bytes task.command kept.silent kept.kind kept.command at.stands in
     let waits = waits_begun lim luns v task begun in
     let same : task_of v task.command ≡ waiting_of task = λ i. record {
       lun = sym (ap (λ (t : Task). t.lun) begun.task_is) i;
@@ -105,10 +107,12 @@ stands_kept d task bytes lim luns first e queue begun follows at =
       sent = 0;
     } in
     let P : List Waiting → ℕ → Type 0 =
-    λ tasks programmed. Stands (sizes_of d) first (record (kept_of d tasks) { programmed = programmed }) (e ▹ Host bytes) in
+    λ tasks programmed. Stands (sizes_of d) first (record (kept_of at.erases d tasks) { programmed = programmed }) (e ▹ Host bytes) in
     record {
       tasks = at.tasks ++ waiting_of task ∷ [];
+      erases = at.erases;
       keeps = keeps_more luns lim d.tasks d.held at.tasks task queue waits at.keeps;
+      counted = at.counted;
       stands = subst (λ (n : ℕ). P (at.tasks ++ waiting_of task ∷ []) n) (programmed_more luns lim d.tasks task waits)
           (subst (λ (t : Waiting). P (at.tasks ++ t ∷ []) (programmed_of d.tasks)) same now);
     }
@@ -151,14 +155,16 @@ stands_with_data d kept others bytes segment first e is part follows at =
     let ws = map waiting_of others in
     let alone : at.tasks ≡ task ∷ ws = keeps.2 in
     let s = sizes_of d in
-    let standing : Stands s first (kept_of d (task ∷ ws)) e = subst (λ (ts : List Waiting). Stands s first (kept_of d ts) e) alone at.stands in
+    let standing : Stands s first (kept_of at.erases d (task ∷ ws)) e = subst (λ (ts : List Waiting). Stands s first (kept_of at.erases d ts) e) alone at.stands in
     let silent : reply_of s true (task ∷ ws) bytes ≡ None = subst (λ (ts : List Waiting). reply_of s true ts bytes ≡ None) alone taken.silent in
-    let now = stands_taken s first (kept_of d (task ∷ ws)) e bytes task ws silent taken.kind standing in
+    let now = stands_taken s first (kept_of at.erases d (task ∷ ws)) e bytes task ws silent taken.kind standing in
     let P : List ℕ → ℕ → Type 0 =
-    λ more programmed. Stands s first (record (kept_of d (with_data more task ∷ ws)) { programmed = programmed }) (e ▹ Host bytes) in
+    λ more programmed. Stands s first (record (kept_of at.erases d (with_data more task ∷ ws)) { programmed = programmed }) (e ▹ Host bytes) in
     record {
       tasks = with_data segment task ∷ ws;
+      erases = at.erases;
       keeps = (with_data segment task, data_kept d.held segment kept task part keeps.1, refl);
+      counted = at.counted;
       stands = subst (λ (n : ℕ). P segment n) (ap programmed_of is) (subst (λ (xs : List ℕ). P xs (programmed_of d.tasks)) (sym taken.segment_is) now);
     }
 
@@ -170,15 +176,18 @@ stands_with_reply d bytes reply out first e is follows at =
     let answered = follows at.tasks at.keeps in
     let s = sizes_of d in
     let none = no_effects d.store.luns (limits_of d.shape) d.store.geometry at.tasks bytes in
-    let now = stands_answered s first (kept_of d at.tasks) e bytes (reply_upiu reply) answered.answers none answered.harmless at.stands in
+    let now = stands_answered s first (kept_of at.erases d at.tasks) e bytes (reply_upiu reply) answered.answers none answered.harmless at.stands in
     record {
       tasks = at.tasks;
+      erases = at.erases;
       keeps = at.keeps;
-      stands = subst (λ (b : List ℕ). Stands s first (kept_of d at.tasks) (e ▹ Host bytes ▹ Device b)) (sym is) now;
+      counted = at.counted;
+      stands = subst (λ (b : List ℕ). Stands s first (kept_of at.erases d at.tasks) (e ▹ Host bytes ▹ Device b)) (sym is) now;
     }
 
 -- data that weren't asked for end the head
-pub stands_without_head : (d : DeviceState) (kept : Task) (others : List Task) (bytes out : List ℕ) (residual luns : ℕ) (lim : Limits) (first : First) (e : History) → d.tasks ≡ kept ∷ others → AllByRecursion (IsWaiting luns lim) others → residual < 2 ^ 32
+pub stands_without_head : (d : DeviceState) (kept : Task) (others : List Task) (bytes out : List ℕ) (residual luns : ℕ) (lim : Limits) (first : First) (e : History) → d.tasks ≡ kept ∷ others
+    → AllByRecursion (IsWaiting luns lim) others → residual < 2 ^ 32
     → out ≡ upiu_out (reply_upiu (Check kept.lun kept.tag residual DataNotAsked))
     → ((tasks : List Waiting) → KeepsTasks d.tasks d.held tasks → reply_of (sizes_of d) true tasks bytes ≡ Some (reply_upiu (Check kept.lun kept.tag residual DataNotAsked)))
     → DeviceStands d first e → DeviceStands (record d { tasks = others; held = [] }) first (e ▹ Host bytes ▹ Device out)
@@ -188,18 +197,20 @@ stands_without_head d kept others bytes out residual luns lim first e is waiting
     let ws = map waiting_of others in
     let alone : at.tasks ≡ task ∷ ws = keeps.2 in
     let s = sizes_of d in
-    let standing : Stands s first (kept_of d (task ∷ ws)) e = subst (λ (ts : List Waiting). Stands s first (kept_of d ts) e) alone at.stands in
+    let standing : Stands s first (kept_of at.erases d (task ∷ ws)) e = subst (λ (ts : List Waiting). Stands s first (kept_of at.erases d ts) e) alone at.stands in
     let end = check task.lun task.tag residual wrong_data in
     let same : reply_upiu (Check kept.lun kept.tag residual DataNotAsked) ≡ end =
     ap (λ (lun : ℕ). check lun kept.tag residual wrong_data) (sym keeps.1.lun) ∙ ap (λ (tag : ℕ). check task.lun tag residual wrong_data) (sym keeps.1.tag) in
     let answers : reply_of s true (task ∷ ws) bytes ≡ Some end =
     subst (λ (ts : List Waiting). reply_of s true ts bytes ≡ Some end) alone (follows at.tasks at.keeps ∙ ap (λ (u : Upiu). Some u) same) in
     let none = no_effects d.store.luns (limits_of d.shape) d.store.geometry (task ∷ ws) bytes in
-    let now = stands_refused s first (kept_of d (task ∷ ws)) e bytes task ws residual answers none fits standing in
-    let P : ℕ → List ℕ → Type 0 = λ n b. Stands s first (record (kept_of d ws) { programmed = n }) (e ▹ Host bytes ▹ Device b) in
+    let now = stands_refused s first (kept_of at.erases d (task ∷ ws)) e bytes task ws residual answers none fits standing in
+    let P : ℕ → List ℕ → Type 0 = λ n b. Stands s first (record (kept_of at.erases d ws) { programmed = n }) (e ▹ Host bytes ▹ Device b) in
     record {
       tasks = ws;
+      erases = at.erases;
       keeps = keeps_waiting luns lim others waiting;
+      counted = at.counted;
       stands = subst (λ (n : ℕ). P n out) (sym (none_programmed luns lim others waiting)) (subst (P 0) (sym (sent ∙ ap upiu_out same)) now);
     }
 
@@ -213,7 +224,8 @@ pub owes_nothing : (s : Sizes) (tasks : List Waiting) (bytes : List ℕ) → rep
 owes_nothing s tasks bytes is = ap (reply_events (effects_of s true tasks bytes)) is
 
 -- a device is what its parts are
-pub device_is : (d now : DeviceState) (tasks : List Task) (held : List ℕ) → now.store ≡ d.store → now.shape ≡ d.shape → now.tasks ≡ tasks → now.held ≡ held → now.counts ≡ d.counts → record d { tasks = tasks; held = held } ≡ now
+pub device_is : (d now : DeviceState) (tasks : List Task) (held : List ℕ) → now.store ≡ d.store → now.shape ≡ d.shape → now.tasks ≡ tasks → now.held ≡ held → now.counts ≡ d.counts
+    → record d { tasks = tasks; held = held } ≡ now
 device_is d now tasks held store shape is_tasks is_held counts =
     λ i. record { store = sym store i; shape = sym shape i; tasks = sym is_tasks i; held = sym is_held i; counts = sym counts i }
 
@@ -224,5 +236,14 @@ sizes_are d lim luns same_limits same_luns = λ i. sizes (sym same_luns i) (same
 pub stands_same : (d now : DeviceState) (first : First) (e : History) → d ≡ now → DeviceStands d first e → DeviceStands now first e
 stands_same d now first e same at = subst (λ (x : DeviceState). DeviceStands x first e) same at
 
-pub answers_same : (d now : DeviceState) (tasks : List Waiting) (bytes : List ℕ) (events : List Event) → d ≡ now → answers_to (sizes_of d) true tasks bytes ≡ events → answers_to (sizes_of now) true tasks bytes ≡ events
+pub answers_same : (d now : DeviceState) (tasks : List Waiting) (bytes : List ℕ) (events : List Event) → d ≡ now → answers_to (sizes_of d) true tasks bytes ≡ events
+    → answers_to (sizes_of now) true tasks bytes ≡ events
 answers_same d now tasks bytes events same at = subst (λ (x : DeviceState). answers_to (sizes_of x) true tasks bytes ≡ events) same at
+
+-- what comes of bytes, by the tasks that were looked at, is what the tasks of a history allow the device
+pub follows_at : (d : DeviceState) (lim : Limits) (luns : ℕ) (looked : List Task) (bytes : List ℕ) (verdict : Verdict) → lim ≡ limits_of d.shape → d.store.luns ≡ luns → looked ≡ d.tasks
+    → ((geometry : Geometry) (held : List ℕ) (tasks : List Waiting) → KeepsTasks looked held tasks → Follows (sizes luns lim geometry) tasks bytes verdict)
+    → (tasks : List Waiting) → KeepsTasks d.tasks d.held tasks → Follows (sizes_of d) tasks bytes verdict
+follows_at d lim luns looked bytes verdict same_limits same_luns same follows tasks keeps =
+    subst (λ (s : Sizes). Follows s tasks bytes verdict) (sizes_are d lim luns same_limits same_luns)
+    (follows d.store.geometry d.held tasks (subst (λ (ts : List Task). KeepsTasks ts d.held tasks) (sym same) keeps))

@@ -109,7 +109,8 @@ reply_tells s on tasks bytes no_queries no_manages = by_fault (wire_fault_of byt
     by_fault None = kind_tells (upiu_at bytes).kind s on tasks (upiu_at bytes) no_queries no_manages
 
 -- the UPIU that answers bytes
-pub answer_tells : (s : Sizes) (on : Bool) (tasks : List Task) (bytes out : List ℕ) → s.queries ≡ false → s.manages ≡ false → answers_to s on tasks bytes ≡ Device out ∷ [] → ¬ (sense_code out ≡ Some 0x44)
+pub answer_tells : (s : Sizes) (on : Bool) (tasks : List Task) (bytes out : List ℕ) → s.queries ≡ false → s.manages ≡ false → answers_to s on tasks bytes ≡ Device out ∷ []
+    → ¬ (sense_code out ≡ Some 0x44)
 answer_tells s on tasks bytes out no_queries no_manages = by_reply (reply_of s on tasks bytes) (reply_tells s on tasks bytes no_queries no_manages)
   where
     same_bytes : {a b : List ℕ} {xs : List Event} → Device a ∷ xs ≡ Device b ∷ [] → a ≡ b

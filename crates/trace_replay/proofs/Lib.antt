@@ -9,3 +9,6 @@ pub mod Standing
 pub mod Transcripts
 pub mod Turns
 pub mod Written
+pub mod ByText
+pub mod Headline
+pub mod Told

@@ -1,6 +1,6 @@
 -- What is read of the options, one after another, is what their words name.
 use Rattle.std.proofs.Common.{◌≡◌, ◌≢◌, ℕ, ◌≤◌, ◌-◌, suc, length, get_or, take, drop, map, Bool, true, false, List, [], ◌∷◌, Option, Some, None, refl, sym, ◌∙◌, ap, subst, arith, inl, inr, ◌⊎◌, codes}
-use Rattle.std.specs.Prelude.{All, AllPairs, cond, ◌||◌, ◌==◌, find, is_some, option_map, if◌then◌else◌}
+use Rattle.std.specs.Prelude.{All, AllPairs, cond, ◌||◌, ◌==◌, find, is_some, option_map, if◌then◌else◌, MatchOption}
 use Rattle.std.specs.Option.{option_and_then}
 use Rattle.std.specs.Str.{bytes_eq}
 use Rattle.std.specs.Str.Parse.{digits_value}
@@ -15,7 +15,7 @@ use Rattle.region_state.specs.declared.shape.Mode.TheVariants as decides
 use Rattle.trace_replay.specs.declared.words.Given.{Given}
 use Rattle.trace_replay.specs.declared.words.OptionName.{OptionName}
 use Rattle.trace_replay.specs.declared.words.OptionName.TheVariants.{Blocks, Pages, Units, Region, Sub, Held, Mode}
-use Rattle.trace_replay.specs.Words.{IsReplay, IsSetting, IsShow, Setting, by_two, is_number, is_value, mode_set, name_of, named_chip, named_unit, number_set, words_of}
+use Rattle.trace_replay.specs.Words.{IsReplay, IsSetting, Setting, by_two, is_number, is_value, mode_set, name_of, named_chip, named_unit, number_set, words_of}
 use Rattle.trace_replay.specs.Options.{chip_given, first_said, mode_said, number_said, option_named, unit_given, with_value, with_words}
 
 -- values of an option
@@ -400,7 +400,7 @@ are_all_read (name ∷ value ∷ words) given e are =
 abbrev nothing : Given
 nothing = record { blocks = None; pages = None; units = None; region = None; sub = None; held = None; mode = None }
 
-pub replay_named : (words options : List (List ℕ)) (given : Given) → words ≡ codes "replay" ∷ options → with_words nothing options ≡ Some given
+replay_named : (words options : List (List ℕ)) (given : Given) → words ≡ codes "replay" ∷ options → with_words nothing options ≡ Some given
     → IsReplay words × (chip_given given ≡ named_chip words) × (unit_given given ≡ named_unit words)
 unfolding named_chip named_unit
 replay_named words options given is read =
@@ -411,11 +411,8 @@ replay_named words options given is read =
       ap unit_given same,
     )
 
-pub replay_refused : (words options : List (List ℕ)) → words ≡ codes "replay" ∷ options → with_words nothing options ≡ None → ¬ IsReplay words × ¬ IsShow words
-replay_refused words options is read = (
-  λ replay. are_all_read options nothing read (settled (subst IsReplay is replay)),
-  λ show. no_show (sym is ∙ show),
-)
+replay_refused : (words options : List (List ℕ)) → words ≡ codes "replay" ∷ options → with_words nothing options ≡ None → ¬ IsReplay words
+replay_refused words options is read = λ replay. are_all_read options nothing read (settled (subst IsReplay is replay))
   where
     rest_same : {a : List ℕ} {xs ys : List (List ℕ)} → a ∷ xs ≡ a ∷ ys → xs ≡ ys
     rest_same e = cc
@@ -432,11 +429,10 @@ replay_refused words options is read = (
         unset Blocks = refl
         unset _ = refl
 
-    first_same : {a b : List ℕ} {xs ys : List (List ℕ)} → a ∷ xs ≡ b ∷ ys → a ≡ b
-    first_same e = cc
-
-    no_show : {options : List (List ℕ)} → codes "replay" ∷ options ≡ codes "show" ∷ [] → ⊥
-    no_show e = false≢true (ap (λ (w : List ℕ). bytes_eq w (codes "show")) (first_same e))
+pub replay_read : (words options : List (List ℕ)) (read : Option Given) → words ≡ codes "replay" ∷ options → read ≡ with_words nothing options
+    → MatchOption read (¬ IsReplay words) (λ (given : Given). IsReplay words × (chip_given given ≡ named_chip words) × (unit_given given ≡ named_unit words))
+replay_read words options None is read = replay_refused words options is (sym read)
+replay_read words options (Some given) is read = replay_named words options given is (sym read)
 
 -- the first words of a list, and the rest
 
@@ -454,7 +450,8 @@ two_first f (a ∷ b ∷ rest) x y some is also =
     let all : take (length (a ∷ b ∷ rest) - 2) rest ≡ rest = take_all (length (a ∷ b ∷ rest) - 2) rest (omega arith) in
     sym (λ i. f (is i) ∷ f (also i) ∷ map f (all i))
 
-pub step_read : (given more : Given) (option : OptionName) (name value : List ℕ) (words rest : List (List ℕ)) → words ≡ name ∷ value ∷ rest → option_named name ≡ Some option → with_value given option value ≡ Some more
+pub step_read : (given more : Given) (option : OptionName) (name value : List ℕ) (words rest : List (List ℕ)) → words ≡ name ∷ value ∷ rest → option_named name ≡ Some option
+    → with_value given option value ≡ Some more
     → with_words more rest ≡ with_words given words
 unfolding with_words
 step_read given more option name value words rest is found took = rw (is, found, took) refl

@@ -1,13 +1,15 @@
 -- Each call of the device leads from where it stands to where it stands then.
-use Rattle.std.proofs.Common.{◌≡◌, ℕ, suc, ◌+◌, ◌-◌, ◌<◌, ◌≤◌, Bool, true, false, not, ◌&&◌, ◌||◌, nat_le, List, [], ◌∷◌, ◌++◌, Option, Some, None, refl, sym, ◌∙◌, ap, subst, arith, inl, inr}
+use Rattle.std.proofs.Common.{◌≡◌, ℕ, suc, ◌+◌, ◌-◌, ◌<◌, ◌≤◌, Bool, true, false, not, ◌&&◌, ◌||◌, nat_le, List, [], ◌∷◌, ◌++◌, length, Option, Some, None, refl, sym, ◌∙◌, ap, subst, arith, inl, inr}
 use Rattle.std.proofs.lemmas.Bool.{false≢true}
 use Rattle.std.specs.Prelude.{flat_map, is_none, map, IsTrue, if◌then◌else◌}
 use Rattle.std.specs.Bool.{OnFalse}
 use Rattle.std.specs.List.{AllByRecursion}
 use Rattle.std.proofs.lemmas.List.{append_assoc, append-nil}
 use Rattle.flat_unit.specs.declared.event.Event.{Event}
-use Rattle.flat_unit.specs.declared.event.Event.TheVariants.{Host, Device}
+use Rattle.flat_unit.specs.declared.event.Event.TheVariants.{Host, Device, Failed}
 use Rattle.flat_unit.specs.Causes.{failures, sense_code}
+use Rattle.flat_unit.specs.Hintless.{IsHintless}
+use Rattle.flat_unit.specs.Laws.{AreShort, HaveRoom}
 use Rattle.flat_unit.specs.History.{History, ◌▹◌, followed_by}
 use Rattle.flat_unit.specs.Print.{print, line_of}
 use Rattle.flat_unit.specs.Queue.{at_rest, on_after, tasks_after}
@@ -16,12 +18,11 @@ use Rattle.flat_unit.specs.Sizes.{Sizes}
 use Rattle.flat_unit.specs.Sound.{answers_to}
 use Rattle.flat_unit.specs.Stands.{First}
 use Rattle.flat_unit.specs.Task.{Task}
-use Rattle.flat_unit.specs.Writes.{moves}
 use Rattle.flash_pages.specs.declared.chip.ChipOp.{ChipOp}
 use Rattle.flash_pages.specs.Place.{Place}
-use Rattle.trace_replay.specs.Transcript.{NeverDead}
+use Rattle.trace_replay.specs.Transcript.{IsPlain, NeverDead, none_written}
 use Rattle.flat_unit.specs.Trace.{Upiu, Steps, Drain, Blank}
-use Rattle.flat_unit.proofs.History.{print-followed_by, failures-followed_by, due_at_once, idle_step}
+use Rattle.flat_unit.proofs.History.{print-followed_by, failures_are-followed_by, due_at_once, idle_step}
 use Rattle.hpb_device.specs.declared.device.Sent.{Sent}
 use Rattle.hpb_device.specs.declared.device.Sent.TheVariants.{Nothing, Upiu as UpiuSent}
 use Rattle.hpb_device.specs.declared.device.Stepped.{Stepped}
@@ -34,8 +35,14 @@ use Rattle.hpb_device.specs.Keeps.{KeepsTasks}
 use Rattle.hpb_device.specs.Standing.{DeviceStands, answer_events, first_of, group_of, sizes_of}
 use Rattle.hpb_device.specs.State.{DeviceState, AtRest, steps_left}
 use Rattle.hpb_device.proofs.Going.{at_rest_of, going_fails, going_is_silent, going_moves_none, going_sizes, going_tasks, going_tells, resting_tasks, few_left}
-use Rattle.trace_replay.specs.Moments.{Standing, LacksEnough, Leads, Cuts, CutLineTo}
+use Rattle.trace_replay.specs.Moments.{Standing, LacksEnough, Leads, Cuts, CutLineTo, pages_in}
 use Rattle.trace_replay.specs.Writes.{AppendsFront, HasWrittenUpTo}
+use Rattle.flat_unit.proofs.Hintless.{answer_hintless}
+use Rattle.hpb_device.proofs.Hintless.{going_hints_none}
+use Rattle.hpb_device.specs.Entries.{EntriesStand}
+use Rattle.hpb_device.specs.Listed.{ListingStands}
+use Rattle.hex.specs.Hex.{IsBytes}
+use Rattle.upiu_wire.specs.Upiu.{upiu_at}
 use Rattle.trace_replay.proofs.Codes.{answer_tells}
 use Rattle.hpb_device.proofs.Going.{going_left}
 use Rattle.trace_replay.proofs.Written.{gathers_more}
@@ -66,6 +73,10 @@ pub record Stepping (old new : DeviceState) (r : Stepped) (out : List ℕ) : Typ
   pub going : AtRest old → ⊥
   pub fewer : steps_left new < steps_left old
   pub shape : new.shape ≡ old.shape
+  pub entries : (first : First) (e : History) → DeviceStands old first e → EntriesStand old e → EntriesStand new (followed_by e (events_of (group_of r out)))
+  pub listings : (had : Place → Bool) (pages : ℕ) (first : First) (e : History) → DeviceStands old first e → ListingStands had pages old e
+      → ListingStands had pages new (followed_by e (events_of (group_of r out)))
+  pub room : r.sent ≡ true → IsBytes out × (length out ≤ 4128)
 
 abbrev after_step : DeviceState → Progress → Stepped → List ℕ → Progress
 after_step start m r out = stepped (sizes_of start) m (group_of r out)
@@ -122,33 +133,61 @@ step_leads start old new m r out at step =
     (rw (going_moves_none old new r out step.goes) refl)
     (λ none. silent_step start old new m r out at step (not_sent r out r.sent refl none))
 
--- the events of one step move no block, and tell no unit dead
-quiet_parts : (e : History) (failed : Option ChipOp) (moved : Option Place) (sent : Option (List ℕ)) → moved ≡ None → ((bytes : List ℕ) → sent ≡ Some bytes → ¬ (sense_code bytes ≡ Some 0x44)) → NeverDead e
-    → (moves (followed_by e (events_of (record { failed = failed; moved = moved; sent = sent }))) ≡ moves e) × NeverDead (followed_by e (events_of (record { failed = failed; moved = moved; sent = sent })))
-quiet_parts e None None None still other alive = (refl, alive)
-quiet_parts e None None (Some bytes) still other alive = (refl, (alive, other bytes refl))
-quiet_parts e (Some op) None None still other alive = (refl, alive)
-quiet_parts e (Some op) None (Some bytes) still other alive = (refl, (alive, other bytes refl))
-quiet_parts e failed (Some p) sent still other alive = absurd (no_place still)
+-- what a device sends where nothing is told dead and no hint is given
+pub record IsPlainUpiu (bytes : List ℕ) : Type 0 where
+  pub bytes_are : IsBytes bytes
+  pub short : length bytes ≤ 4128
+  pub alive : ¬ (sense_code bytes ≡ Some 0x44)
+  pub hintless : IsHintless (upiu_at bytes) (upiu_at bytes).kind
+
+pub plain_sent : (e : History) (bytes : List ℕ) → IsPlain e → IsPlainUpiu bytes → IsPlain (e ▹ Device bytes)
+plain_sent e bytes so_far is = record {
+  bytes = (is.bytes_are, so_far.bytes);
+  short = (is.short, so_far.short);
+  unmoved = so_far.unmoved;
+  alive = (so_far.alive, is.alive);
+  hintless = (so_far.hintless, is.hintless);
+}
+
+plain_failed : (e : History) (op : ChipOp) → IsPlain e → IsPlain (e ▹ Failed op)
+plain_failed e op so_far =
+    record { bytes = (tt, so_far.bytes); short = (tt, so_far.short); unmoved = so_far.unmoved; alive = so_far.alive; hintless = so_far.hintless }
+
+plain_host : (e : History) (bytes : List ℕ) → IsBytes bytes → length bytes ≤ 65568 → IsPlain e → IsPlain (e ▹ Host bytes)
+plain_host e bytes are few so_far =
+    record { bytes = (are, so_far.bytes); short = (few, so_far.short); unmoved = so_far.unmoved; alive = so_far.alive; hintless = so_far.hintless }
+
+-- the events of one step are plain
+plain_group : (e : History) (failed : Option ChipOp) (moved : Option Place) (sent : Option (List ℕ)) → moved ≡ None → ((bytes : List ℕ) → sent ≡ Some bytes → IsPlainUpiu bytes) → IsPlain e
+    → IsPlain (followed_by e (events_of (record { failed = failed; moved = moved; sent = sent })))
+plain_group e None None None still upiu so_far = so_far
+plain_group e None None (Some bytes) still upiu so_far = plain_sent e bytes so_far (upiu bytes refl)
+plain_group e (Some op) None None still upiu so_far = plain_failed e op so_far
+plain_group e (Some op) None (Some bytes) still upiu so_far = plain_sent (e ▹ Failed op) bytes (plain_failed e op so_far) (upiu bytes refl)
+plain_group e failed (Some p) sent still upiu so_far = absurd (no_place still)
   where
     no_place : {p : Place} → Some p ≡ None → ⊥
     no_place is = cc
 
-code_of : (b : Bool) (out bytes : List ℕ) → (b ≡ true → ¬ (sense_code out ≡ Some 0x44)) → (if b then Some out else None) ≡ Some bytes → ¬ (sense_code bytes ≡ Some 0x44)
-code_of true out bytes other is = subst (λ (l : List ℕ). ¬ (sense_code l ≡ Some 0x44)) (same is) (other refl)
+upiu_of_step : (b : Bool) (out bytes : List ℕ) → (b ≡ true → IsPlainUpiu out) → (if b then Some out else None) ≡ Some bytes → IsPlainUpiu bytes
+upiu_of_step true out bytes upiu is = subst IsPlainUpiu (same is) (upiu refl)
   where
     same : {a b : List ℕ} → Some a ≡ Some b → a ≡ b
     same e = cc
-code_of false out bytes other is = absurd (no_bytes is)
+upiu_of_step false out bytes upiu is = absurd (no_bytes is)
   where
     no_bytes : {a : List ℕ} → None ≡ Some a → ⊥
     no_bytes e = cc
 
-events_quiet : (start old new : DeviceState) (m : Progress) (r : Stepped) (out : List ℕ) → Standing start old m → Stepping old new r out
-    → (moves (followed_by m.events (events_of (group_of r out))) ≡ moves m.events) × NeverDead (followed_by m.events (events_of (group_of r out)))
-events_quiet start old new m r out at step =
-    quiet_parts m.events r.failed (group_of r out).moved (group_of r out).sent (rw (going_moves_none old new r out step.goes) refl)
-    (λ bytes is. code_of r.sent out bytes (going_tells old new r out step.goes) is) at.alive
+step_plain : (start old new : DeviceState) (m : Progress) (r : Stepped) (out : List ℕ) → Standing start old m → Stepping old new r out → IsPlain (followed_by m.events (events_of (group_of r out)))
+step_plain start old new m r out at step =
+    plain_group m.events r.failed (group_of r out).moved (group_of r out).sent (rw (going_moves_none old new r out step.goes) refl)
+    (λ bytes is. upiu_of_step r.sent out bytes (λ sends. record {
+      bytes_are = (step.room sends).0;
+      short = (step.room sends).1;
+      alive = going_tells old new r out step.goes sends;
+      hintless = going_hints_none old new r out step.goes sends;
+    }) is) at.plain
 
 -- what follows from what is said of each run
 all_weaker : (P Q : OpenRun → Type 0) (runs : List OpenRun) → ((run : OpenRun) → P run → Q run) → AllByRecursion P runs → AllByRecursion Q runs
@@ -164,9 +203,10 @@ step_standing start old new m r out at step = record {
   stands = step.stands (first_of start) m.events at.stands;
   sizes = going_sizes old new r out step.goes step.shape ∙ at.sizes;
   same = same_since start.store old.store new.store at.same step.goes.same;
-  faults = omega (arith, at.faults, going_fails old new r out step.goes, failures-followed_by m.events (events_of (group_of r out)));
-  unmoved = (events_quiet start old new m r out at step).0 ∙ at.unmoved;
-  alive = (events_quiet start old new m r out at step).1;
+  faults = failures_are-followed_by start.store.faults old.store.faults new.store.faults m.events (events_of (group_of r out)) at.faults (going_fails old new r out step.goes);
+  plain = step_plain start old new m r out at step;
+  entries = step.entries (first_of start) m.events at.stands at.entries;
+  listings = step.listings none_written (pages_in start) (first_of start) m.events at.stands at.listings;
   lacking = all_weaker (LacksEnough old) (LacksEnough new) m.runs (λ run enough going. omega (arith, enough step.going, step.fewer)) at.lacking;
   tried = λ is. going_was_silent old new r out step.goes (not_sent r out r.sent refl (sent_none (group_of r out).sent _ is));
 }
@@ -175,8 +215,7 @@ step_standing start old new m r out at step = record {
 few_steps : (start now : DeviceState) (p : Progress) → Standing start now p → steps_left now ≤ enough (sizes_of start) (tasks_at (sizes_of start) p)
 few_steps start now p at =
     let some : 1 ≤ now.store.geometry.pages = rw (ap (λ (s : Sizes). s.erase_block) at.sizes) at.some_page in
-    let few = few_left now at.stands.tasks some at.stands.keeps in
-    rw (tracks start now p at) (subst (λ (s : Sizes). steps_left now ≤ enough s at.stands.tasks) at.sizes few)
+    subst (λ (s : Sizes). steps_left now ≤ enough s (tasks_after s p.events)) at.sizes (few_left now (first_of start) p.events some at.stands)
 
 -- a run that begins lacks as many calls as end all tasks
 run_standing : (start now : DeviceState) (p : Progress) → Standing start now p → Standing start now (with_run (sizes_of start) p)
@@ -186,8 +225,9 @@ run_standing start now p at = record {
   sizes = at.sizes;
   same = at.same;
   faults = at.faults;
-  unmoved = at.unmoved;
-  alive = at.alive;
+  plain = at.plain;
+  entries = at.entries;
+  listings = at.listings;
   lacking = (λ going. few_steps start now p at, at.lacking);
   tried = at.tried;
 }
@@ -201,18 +241,20 @@ pub record Draining (start now : DeviceState) (before written : Option (List ℕ
   pub standing : Standing start now moment
   pub printed : HasWrittenUpTo before written (print moment.events) gathered
 
-pub draining_begins : (start now : DeviceState) (before w : Option (List ℕ)) (gathered : List ℕ) (p : Progress) → Standing start now p → HasWrittenUpTo before w (print p.events) gathered → Draining start now before w gathered p
+pub draining_begins : (start now : DeviceState) (before w : Option (List ℕ)) (gathered : List ℕ) (p : Progress) → Standing start now p → HasWrittenUpTo before w (print p.events) gathered
+    → Draining start now before w gathered p
 draining_begins start now before w gathered p at printed = record {
   count = 0;
   moment = without_runs p;
   steps = refl;
   few = omega (arith, few_steps start now p at);
-  standing = record { some_page = at.some_page; stands = at.stands; sizes = at.sizes; same = at.same; faults = at.faults; unmoved = at.unmoved; alive = at.alive; lacking = tt; tried = at.tried };
+  standing = record { some_page = at.some_page; stands = at.stands; sizes = at.sizes; same = at.same; faults = at.faults; plain = at.plain; entries = at.entries; listings = at.listings; lacking = tt; tried = at.tried };
   printed = printed;
 }
 
 -- what was gathered is written, or stays
-pub draining_written : (start now : DeviceState) (before w written : Option (List ℕ)) (gathered gathered_now : List ℕ) (p : Progress) → (so_far : Draining start now before w gathered p) → HasWrittenUpTo before written (print so_far.moment.events) gathered_now
+pub draining_written : (start now : DeviceState) (before w written : Option (List ℕ)) (gathered gathered_now : List ℕ) (p : Progress) → (so_far : Draining start now before w gathered p)
+    → HasWrittenUpTo before written (print so_far.moment.events) gathered_now
     → Draining start now before written gathered_now p
 draining_written start now before w written gathered gathered_now p so_far printed = record {
   count = so_far.count;
@@ -236,7 +278,8 @@ draining_goes_on start old new before w gathered gathered_now p r out step is so
 }
 
 -- the sink failed between two steps
-pub draining_is_cut : (start now : DeviceState) (before w written : Option (List ℕ)) (gathered : List ℕ) (p : Progress) → (so_far : Draining start now before w gathered p) → AppendsFront before written (print so_far.moment.events)
+pub draining_is_cut : (start now : DeviceState) (before w written : Option (List ℕ)) (gathered : List ℕ) (p : Progress) → (so_far : Draining start now before w gathered p)
+    → AppendsFront before written (print so_far.moment.events)
     → Cuts (CutLineTo (sizes_of start) Drain p) start now before written
 draining_is_cut start now before w written gathered p so_far cut = record {
   moment = so_far.moment;
@@ -281,7 +324,8 @@ pub record Made (start now : DeviceState) (before written : Option (List ℕ)) (
   pub standing : Standing start now moment
   pub printed : HasWrittenUpTo before written (print moment.events) gathered
 
-pub made_begins : (start now : DeviceState) (before w : Option (List ℕ)) (gathered : List ℕ) (p : Progress) → Standing start now p → HasWrittenUpTo before w (print p.events) gathered → Made start now before w gathered p 0
+pub made_begins : (start now : DeviceState) (before w : Option (List ℕ)) (gathered : List ℕ) (p : Progress) → Standing start now p → HasWrittenUpTo before w (print p.events) gathered
+    → Made start now before w gathered p 0
 made_begins start now before w gathered p at printed = record {
   moment = with_run (sizes_of start) p;
   steps = refl;
@@ -291,12 +335,14 @@ made_begins start now before w gathered p at printed = record {
 }
 
 -- what was gathered is written, or stays
-pub made_written : (start now : DeviceState) (before w written : Option (List ℕ)) (gathered gathered_now : List ℕ) (p : Progress) (count : ℕ) → (so_far : Made start now before w gathered p count) → HasWrittenUpTo before written (print so_far.moment.events) gathered_now
+pub made_written : (start now : DeviceState) (before w written : Option (List ℕ)) (gathered gathered_now : List ℕ) (p : Progress) (count : ℕ) → (so_far : Made start now before w gathered p count)
+    → HasWrittenUpTo before written (print so_far.moment.events) gathered_now
     → Made start now before written gathered_now p count
 made_written start now before w written gathered gathered_now p count so_far printed =
     record { moment = so_far.moment; steps = so_far.steps; lacked = so_far.lacked; standing = so_far.standing; printed = printed }
 
-one_more : (start now : DeviceState) (before w : Option (List ℕ)) (gathered : List ℕ) (p next_moment : Progress) (count next : ℕ) → next ≡ suc count → (so_far : Made start now before w gathered p count) → StepTo (sizes_of start) so_far.moment next_moment
+one_more : (start now : DeviceState) (before w : Option (List ℕ)) (gathered : List ℕ) (p next_moment : Progress) (count next : ℕ) → next ≡ suc count
+    → (so_far : Made start now before w gathered p count) → StepTo (sizes_of start) so_far.moment next_moment
     → StepsTo (sizes_of start) next (with_run (sizes_of start) p) next_moment
 one_more start now before w gathered p next_moment count next is so_far leads =
     subst (λ (n : ℕ). StepsTo (sizes_of start) n (with_run (sizes_of start) p) next_moment) (sym is) (so_far.moment, so_far.steps, leads)
@@ -345,16 +391,19 @@ made_rests start now before w gathered p count next counted rests so_far = recor
     sizes = so_far.standing.sizes;
     same = so_far.standing.same;
     faults = so_far.standing.faults;
-    unmoved = so_far.standing.unmoved;
-    alive = so_far.standing.alive;
+    plain = so_far.standing.plain;
+    entries = so_far.standing.entries;
+    listings = so_far.standing.listings;
     lacking = so_far.standing.lacking;
-    tried = λ is. so_far.standing.tried (still_tried (sizes_of start) so_far.moment (ap at_rest (tracks start now so_far.moment so_far.standing) ∙ resting_tasks now so_far.standing.stands.tasks so_far.standing.stands.keeps rests) is);
+    tried = λ is. so_far.standing.tried (still_tried (sizes_of start) so_far.moment (ap at_rest (tracks start now so_far.moment so_far.standing)
+        ∙ resting_tasks now so_far.standing.stands.tasks so_far.standing.stands.keeps rests) is);
   };
   printed = so_far.printed;
 }
 
 -- the sink failed between two steps
-pub made_is_cut : (start now : DeviceState) (before w written : Option (List ℕ)) (gathered : List ℕ) (p : Progress) (count limit : ℕ) → count ≤ limit → (so_far : Made start now before w gathered p count) → AppendsFront before written (print so_far.moment.events)
+pub made_is_cut : (start now : DeviceState) (before w written : Option (List ℕ)) (gathered : List ℕ) (p : Progress) (count limit : ℕ) → count ≤ limit
+    → (so_far : Made start now before w gathered p count) → AppendsFront before written (print so_far.moment.events)
     → Cuts (CutLineTo (sizes_of start) (Steps limit) p) start now before written
 made_is_cut start now before w written gathered p count limit below so_far cut =
     record { moment = so_far.moment; reached = (count, below, so_far.steps); standing = so_far.standing; printed = cut }
@@ -382,8 +431,9 @@ made_ends start now before w gathered p count so_far = record {
     sizes = so_far.standing.sizes;
     same = so_far.standing.same;
     faults = so_far.standing.faults;
-    unmoved = so_far.standing.unmoved;
-    alive = so_far.standing.alive;
+    plain = so_far.standing.plain;
+    entries = so_far.standing.entries;
+    listings = so_far.standing.listings;
     lacking = lacking;
     tried = so_far.standing.tried;
   };
@@ -400,6 +450,12 @@ pub record Received (old new : DeviceState) (bytes out : List ℕ) (sent : Sent)
   pub store : new.store ≡ old.store
   pub shape : new.shape ≡ old.shape
   pub receives : Receives old new bytes sent out
+  pub entries : (e : History) → EntriesStand old e → EntriesStand new (followed_by (e ▹ Host bytes) (answer_events sent out))
+  pub listings : (had : Place → Bool) (pages : ℕ) (first : First) (e : History) → DeviceStands old first e → ListingStands had pages old e
+      → ListingStands had pages new (followed_by (e ▹ Host bytes) (answer_events sent out))
+  pub bytes_are : IsBytes bytes
+  pub few : length bytes ≤ 65568
+  pub room : sent ≡ UpiuSent → IsBytes out × (length out ≤ 4128)
 
 same_sizes : (old new : DeviceState) → new.store ≡ old.store → new.shape ≡ old.shape → sizes_of new ≡ sizes_of old
 same_sizes old new store shape = λ i. Rattle.hpb_device.specs.Sizes.sizes (store i).luns (Rattle.hpb_device.specs.Limits.limits_of (shape i)) (store i).geometry
@@ -412,26 +468,28 @@ answers_of start old new bytes out sent p at received =
     ∙ (ap (λ (ts : List Task). answers_to (sizes_of start) true ts bytes) (tracks start old p at)
     ∙ subst (λ (s : Sizes). answers_to s true at.stands.tasks bytes ≡ answer_events sent out) at.sizes (received.answers at.stands.tasks at.stands.keeps))
 
--- what the device sends at once tells no unit dead
-answer_alive : (start old new : DeviceState) (bytes out : List ℕ) (sent : Sent) (p : Progress) → Standing start old p → Received old new bytes out sent → sent ≡ UpiuSent → ¬ (sense_code out ≡ Some 0x44)
-answer_alive start old new bytes out sent p at received sends =
-    answer_tells (sizes_of start) (on_after p.events) (tasks_at (sizes_of start) p) bytes out refl refl
-    (answers_of start old new bytes out sent p at received ∙ ap (λ (x : Sent). answer_events x out) sends)
+-- what the device sends at once is plain
+answer_upiu : (start old new : DeviceState) (bytes out : List ℕ) (sent : Sent) (p : Progress) → Standing start old p → Received old new bytes out sent → sent ≡ UpiuSent → IsPlainUpiu out
+answer_upiu start old new bytes out sent p at received sends =
+    let answers = answers_of start old new bytes out sent p at received ∙ ap (λ (x : Sent). answer_events x out) sends in
+    record {
+      bytes_are = (received.room sends).0;
+      short = (received.room sends).1;
+      alive = answer_tells (sizes_of start) (on_after p.events) (tasks_at (sizes_of start) p) bytes out refl refl answers;
+      hintless = answer_hintless (sizes_of start) (on_after p.events) (tasks_at (sizes_of start) p) bytes out refl refl answers;
+    }
 
-still_alive : (e : History) (sent : Sent) (out : List ℕ) → NeverDead e → (sent ≡ UpiuSent → ¬ (sense_code out ≡ Some 0x44)) → NeverDead (followed_by e (answer_events sent out))
-still_alive e Nothing out alive code = alive
-still_alive e UpiuSent out alive code = (alive, code refl)
-
-still_unmoved : (e : History) (sent : Sent) (out : List ℕ) → moves (followed_by e (answer_events sent out)) ≡ moves e
-still_unmoved e Nothing out = refl
-still_unmoved e UpiuSent out = refl
+plain_answer : (e : History) (sent : Sent) (out : List ℕ) → IsPlain e → (sent ≡ UpiuSent → IsPlainUpiu out) → IsPlain (followed_by e (answer_events sent out))
+plain_answer e Nothing out so_far upiu = so_far
+plain_answer e UpiuSent out so_far upiu = plain_sent e out so_far (upiu refl)
 
 answers_fail_nothing : (e : History) (sent : Sent) (out : List ℕ) → failures (followed_by e (answer_events sent out)) ≡ failures e
 answers_fail_nothing e Nothing out = refl
 answers_fail_nothing e UpiuSent out = refl
 
 -- where the first task is the one that it was before the bytes came, it has been silent as before
-told_tried : (start old new : DeviceState) (bytes out : List ℕ) (sent : Sent) (p : Progress) → (at : Standing start old p) → (got : Received old new bytes out sent) → told (sizes_of start) p bytes ≡ followed_by (p.events ▹ Host bytes) (answer_events sent out)
+told_tried : (start old new : DeviceState) (bytes out : List ℕ) (sent : Sent) (p : Progress) → (at : Standing start old p) → (got : Received old new bytes out sent)
+    → told (sizes_of start) p bytes ≡ followed_by (p.events ▹ Host bytes) (answer_events sent out)
     → (received (sizes_of start) p bytes).tried ≡ true → WasSilent new.tasks
 told_tried start old new bytes out sent p at got events is =
     let now = got.stands (first_of start) p.events at.stands in
@@ -460,9 +518,13 @@ told_leads start old new before w gathered gathered_now bytes out sent p at got 
         stands = rw events (got.stands (first_of start) p.events at.stands);
         sizes = same_sizes old new got.store got.shape ∙ at.sizes;
         same = rw got.store at.same;
-        faults = rw (events, got.store, answers_fail_nothing (p.events ▹ Host bytes) sent out) at.faults;
-        unmoved = rw events (still_unmoved (p.events ▹ Host bytes) sent out ∙ at.unmoved);
-        alive = rw events (still_alive (p.events ▹ Host bytes) sent out at.alive (answer_alive start old new bytes out sent p at got));
+        faults = rw (events, got.store) (record {
+          least = rw (answers_fail_nothing (p.events ▹ Host bytes) sent out) at.faults.least;
+          most = rw (answers_fail_nothing (p.events ▹ Host bytes) sent out) at.faults.most;
+        });
+        plain = rw events (plain_answer (p.events ▹ Host bytes) sent out (plain_host p.events bytes got.bytes_are got.few at.plain) (answer_upiu start old new bytes out sent p at got));
+        entries = rw events (got.entries p.events at.entries);
+        listings = rw events (got.listings none_written (pages_in start) (first_of start) p.events at.stands at.listings);
         lacking = tt;
         tried = told_tried start old new bytes out sent p at got events;
       };
@@ -474,14 +536,22 @@ on_false : {P : Type 0} (b : Bool) → (IsTrue b → ⊥) → OnFalse b P → P
 on_false true other told = absurd (other refl)
 on_false false other told = told
 
-pub stepping_of : (old new : DeviceState) (r : Stepped) (out : List ℕ) → ((first : First) (e : History) → DeviceStands old first e → DeviceStands new first (followed_by e (events_of (group_of r out))))
-    → (AtRest old → ⊥) → (IsTrue r.idle → AtRest old) → OnFalse r.idle (GoesOn old new r out) → OnFalse r.idle (steps_left new < steps_left old) → new.shape ≡ old.shape → Stepping old new r out
-stepping_of old new r out stands going idle steps fewer shape = record {
+pub stepping_of : (old new : DeviceState) (r : Stepped) (out : List ℕ)
+    → ((first : First) (e : History) → DeviceStands old first e → DeviceStands new first (followed_by e (events_of (group_of r out))))
+    → ((first : First) (e : History) → DeviceStands old first e → EntriesStand old e → EntriesStand new (followed_by e (events_of (group_of r out))))
+    → ((had : Place → Bool) (pages : ℕ) (first : First) (e : History) → DeviceStands old first e → ListingStands had pages old e
+    → ListingStands had pages new (followed_by e (events_of (group_of r out))))
+    → (AtRest old → ⊥) → (IsTrue r.idle → AtRest old) → OnFalse r.idle (GoesOn old new r out) → OnFalse r.idle (steps_left new < steps_left old) → new.shape ≡ old.shape
+    → (r.sent ≡ true → IsBytes out × (length out ≤ 4128)) → Stepping old new r out
+stepping_of old new r out stands entries listings going idle steps fewer shape room = record {
   stands = stands;
   goes = on_false r.idle (λ is. going (idle is)) steps;
   going = going;
   fewer = on_false r.idle (λ is. going (idle is)) fewer;
   shape = shape;
+  entries = entries;
+  listings = listings;
+  room = room;
 }
 
 pub stepping_moves_none : (old new : DeviceState) (r : Stepped) (out : List ℕ) → Stepping old new r out → r.moved ≡ None
@@ -489,7 +559,8 @@ stepping_moves_none old new r out step = going_moves_none old new r out step.goe
 
 -- bytes of the host, whose lines are gathered
 pub received_leads : (start old new : DeviceState) (before w : Option (List ℕ)) (gathered one two bytes out : List ℕ) (sent : Sent) (p : Progress)
-    → Standing start old p → Received old new bytes out sent → HasWrittenUpTo before w (print p.events) gathered → one ≡ gathered ++ line_of (Host bytes) → (sent ≡ UpiuSent → two ≡ one ++ line_of (Device out)) → (sent ≡ Nothing → two ≡ one)
+    → Standing start old p → Received old new bytes out sent → HasWrittenUpTo before w (print p.events) gathered → one ≡ gathered ++ line_of (Host bytes)
+    → (sent ≡ UpiuSent → two ≡ one ++ line_of (Device out)) → (sent ≡ Nothing → two ≡ one)
     → Leads (LineTo (sizes_of start) (Upiu bytes) p) start new before w two
 received_leads start old new before w gathered one two bytes out sent p at got printed first answer none =
     told_leads start old new before w gathered two bytes out sent p at got printed (told_lines gathered one two bytes out sent first answer none)

@@ -7,14 +7,16 @@ use Rattle.std.specs.Io.KnownBytes.{prepend_known}
 use Rattle.std.proofs.KnownBytes.{prepend_known-nil}
 use Rattle.trace_text.specs.Lines.{EndsAt, WhereTold}
 use Rattle.flash_pages.specs.declared.chip.Geometry.{Geometry}
-use Rattle.flash_pages.specs.Chip.{Page, erased_chip}
-use Rattle.flash_pages.specs.Unit.{unit_of, next_seq}
+use Rattle.flash_pages.specs.Chip.{Page, erased_chip, erased_count}
+use Rattle.flash_pages.specs.Unit.{current, unit_of, next_seq}
 use Rattle.flash_pages.proofs.Units.{unit_of-erased}
-use Rattle.flash_pages.proofs.Programming.{next_seq-erased}
+use Rattle.flash_pages.proofs.Programming.{erased_count-erased, next_seq-erased}
 use Rattle.flat_unit.specs.declared.event.Event.TheVariants.{Reset}
-use Rattle.flat_unit.specs.Causes.{FailuresWithin}
+use Rattle.flat_unit.specs.Causes.{FailuresAre}
 use Rattle.flat_unit.specs.Contents.{block_at, candidates}
 use Rattle.flat_unit.specs.History.{◌▹◌}
+use Rattle.flat_unit.specs.Entries.{Told}
+use Rattle.flat_unit.specs.Pages.{KeepsFresh}
 use Rattle.flat_unit.specs.Replays.{Progress}
 use Rattle.flat_unit.specs.Sizes.{Sizes}
 use Rattle.flat_unit.specs.Stands.{First, Stands}
@@ -23,14 +25,14 @@ use Rattle.hpb_device.specs.Limits.{limits_of}
 use Rattle.hpb_device.specs.Sizes.{sizes}
 use Rattle.hpb_device.specs.Standing.{first_of, kept_of, sizes_of}
 use Rattle.hpb_device.specs.State.{DeviceState}
-use Rattle.trace_replay.specs.Moments.{Standing}
+use Rattle.trace_replay.specs.Moments.{Standing, pages_in}
 use Rattle.flash_store.specs.Store.{CanServe}
 use Rattle.region_state.specs.Shape.{IsWithinLimits}
 use Rattle.trace_replay.specs.Options.{cut_shape}
 use Rattle.trace_replay.specs.Run.{IsLeft, IsNamed, IsPlanned, ProgramIs, RunIs, geometry_text}
 use Rattle.trace_replay.specs.Writes.{AppendsFront}
 use Rattle.trace_replay.specs.Showing.{ShowIs, ShowProgramIs}
-use Rattle.trace_replay.specs.Transcript.{IsTranscript, sizes_on, zero_unit}
+use Rattle.trace_replay.specs.Transcript.{IsTranscript, none_written, sizes_on, zero_unit}
 use Rattle.trace_replay.specs.Words.{IsReplay, named_chip, named_unit}
 use Rattle.region_state.specs.declared.shape.Shape.{Shape}
 use Rattle.trace_replay.specs.declared.status.Status.{Status}
@@ -50,56 +52,68 @@ pub record IsFresh (device : DeviceState) (shape : Shape) (geometry : Geometry) 
 pub fresh_sizes : (device : DeviceState) (shape : Shape) (geometry : Geometry) (pages : List Page) (faults : ℕ) → IsFresh device shape geometry pages faults → sizes_of device ≡ sizes_on shape geometry
 fresh_sizes device shape geometry pages faults fresh = λ i. sizes (fresh.luns i) (limits_of (fresh.shape_is i)) (fresh.geometry_is i)
 
-pub fresh_first : (device : DeviceState) (shape : Shape) (geometry : Geometry) (pages : List Page) (faults : ℕ) → IsFresh device shape geometry pages faults → first_of device ≡ record { unit = zero_unit shape; next = 0 }
+-- a unit of zeros over an erased chip
+abbrev pub zero_first : Shape → Geometry → First
+zero_first shape geometry = record { unit = zero_unit shape; next = 0; free = geometry.blocks * geometry.pages }
+
+pub fresh_first : (device : DeviceState) (shape : Shape) (geometry : Geometry) (pages : List Page) (faults : ℕ) → IsFresh device shape geometry pages faults
+    → first_of device ≡ zero_first shape geometry
 fresh_first device shape geometry pages faults fresh =
-    let on_chip : first_of device ≡ record { unit = unit_of 1 shape.units (erased_chip geometry); next = next_seq (erased_chip geometry) } =
-    λ i. record { unit = unit_of (fresh.luns i) (fresh.units i) ((fresh.pages_are ∙ fresh.erased) i); next = next_seq ((fresh.pages_are ∙ fresh.erased) i) } in
-    on_chip ∙ (λ i. record { unit = unit_of-erased 1 shape.units (geometry.blocks * geometry.pages) i; next = next_seq-erased (geometry.blocks * geometry.pages) i })
+    let chip = fresh.pages_are ∙ fresh.erased in
+    let on_chip : first_of device ≡ record { unit = unit_of 1 shape.units (erased_chip geometry); next = next_seq (erased_chip geometry); free = erased_count (erased_chip geometry) } =
+    λ i. record { unit = unit_of (fresh.luns i) (fresh.units i) (chip i); next = next_seq (chip i); free = erased_count (chip i) } in
+    let count = geometry.blocks * geometry.pages in
+    on_chip ∙ (λ i. record { unit = unit_of-erased 1 shape.units count i; next = next_seq-erased count i; free = erased_count-erased count i })
 
 -- where a device is left is a transcript
-standing_transcript : (start device : DeviceState) (shape : Shape) (geometry : Geometry) (pages : List Page) (faults : ℕ) (p : Progress) → IsFresh start shape geometry pages faults → Standing start device p
+standing_transcript : (start device : DeviceState) (shape : Shape) (geometry : Geometry) (pages : List Page) (faults : ℕ) (p : Progress) → IsFresh start shape geometry pages faults
+    → Standing start device p
     → IsTranscript shape geometry faults device.store.faults device.store.pages p.events
 standing_transcript start device shape geometry pages faults p fresh at =
     let sized : sizes_of device ≡ sizes_on shape geometry = at.sizes ∙ fresh_sizes start shape geometry pages faults fresh in
-    let here : Stands (sizes_on shape geometry) (record { unit = zero_unit shape; next = 0 }) (kept_of device at.stands.tasks) p.events =
-    subst (λ (first : First). Stands (sizes_on shape geometry) first (kept_of device at.stands.tasks) p.events) (fresh_first start shape geometry pages faults fresh)
-    (subst (λ (s : Sizes). Stands s (first_of start) (kept_of device at.stands.tasks) p.events) sized at.stands.stands) in
+    let kept = kept_of at.stands.erases device at.stands.tasks in
+    let here : Stands (sizes_on shape geometry) (zero_first shape geometry) kept p.events =
+    subst (λ (first : First). Stands (sizes_on shape geometry) first kept p.events) (fresh_first start shape geometry pages faults fresh)
+    (subst (λ (s : Sizes). Stands s (first_of start) kept p.events) sized at.stands.stands) in
     record {
+      plain = at.plain;
       sound = here.sound;
       caused = here.caused;
-      unmoved = at.unmoved;
-      alive = at.alive;
-      failures = subst (λ (n : ℕ). FailuresWithin n device.store.faults p.events) fresh.faults_are at.faults;
+      failures = subst (λ (n : ℕ). FailuresAre n device.store.faults p.events) fresh.faults_are at.faults;
       allowed = λ place inside.
           let luns : device.store.luns ≡ 1 = at.same.luns ∙ fresh.luns in
           let units : device.store.units ≡ shape.units = at.same.units ∙ fresh.units in
           subst (λ (l : ℕ). Contains (candidates (sizes_on shape geometry) (zero_unit shape) (p.events ▹ Reset) place) (block_at (sizes_on shape geometry) (unit_of l shape.units device.store.pages) place)) luns
           (subst (λ (u : ℕ). Contains (candidates (sizes_on shape geometry) (zero_unit shape) (p.events ▹ Reset) place) (block_at (sizes_on shape geometry) (unit_of device.store.luns u device.store.pages) place)) units
-          (handed_back (sizes_on shape geometry) (record { unit = zero_unit shape; next = 0 }) (kept_of device at.stands.tasks) p.events here place inside));
+          (handed_back (sizes_on shape geometry) (zero_first shape geometry) kept p.events here place inside));
+      told = subst (λ (n : ℕ). Told (sizes_on shape geometry) n none_written p.events) (ap (λ (g : Geometry). g.blocks * g.pages) fresh.geometry_is)
+          (subst (λ (s : Sizes). Told s (pages_in start) none_written p.events) sized at.listings.told);
+      entries = subst (λ (s : Sizes). KeepsFresh s (current device.store.pages) p.events) sized at.entries.fresh;
     }
 
-pub left_transcript : (start now : DeviceState) (shape : Shape) (geometry : Geometry) (pages back : List Page) (faults faults_back : ℕ) (p : Progress) → IsFresh start shape geometry pages faults → back ≡ now.store.pages → faults_back ≡ now.store.faults → IsLeft start now p
+pub left_transcript : (start now : DeviceState) (shape : Shape) (geometry : Geometry) (pages back : List Page) (faults faults_back : ℕ) (p : Progress) → IsFresh start shape geometry pages faults
+    → back ≡ now.store.pages → faults_back ≡ now.store.faults → IsLeft start now p
     → IsTranscript shape geometry faults faults_back back p.events
 left_transcript start now shape geometry pages back faults faults_back p fresh is_back is_faults (device, at, same) =
     rw (is_back, is_faults, same) (standing_transcript start device shape geometry pages faults p fresh at)
 
 -- what is said of the events may be weakened
-pub run_shows : (s : Sizes) (good better : Progress → Type 0) (left left_now w w_now : Option (List ℕ)) (source sink : Type 0) (limit : ℕ) (status : Status) → ((p : Progress) → good p → better p)
-    → RunIs s good left left_now w w_now source sink limit status → RunIs s better left left_now w w_now source sink limit status
-run_shows s good better left left_now w w_now source sink limit Done leads (mid, n, ran, ends) = (mid, n, ran_with s left mid n _ _ ran (leads _ ran.shows.0, ran.shows.1), ends)
-run_shows s good better left left_now w w_now source sink limit (BadLine number) leads (mid, n, ran, is) = (mid, n, ran_with s left mid n _ _ ran (leads _ ran.shows.0, ran.shows.1, ran.shows.2), is)
-run_shows s good better left left_now w w_now source sink limit ReadFault leads (mid, n, ran, rose) = (mid, n, ran_with s left mid n _ _ ran (leads _ ran.shows.0, ran.shows.1), rose)
-run_shows s good better left left_now w w_now source sink limit LongTrace leads (mid, ran, more) = (mid, ran_with s left mid limit _ _ ran (leads _ ran.shows.0, ran.shows.1), more)
-run_shows s good better left left_now w w_now source sink limit WriteFault leads (mid, n, last, words, ran, well, are, cut, rose) = (mid, n, last, words, ran, leads last well, are, cut, rose)
-run_shows s good better left left_now w w_now source sink limit Usage leads none = absurd none
-run_shows s good better left left_now w w_now source sink limit Memory leads none = absurd none
-run_shows s good better left left_now w w_now source sink limit BadGeometry leads none = absurd none
-run_shows s good better left left_now w w_now source sink limit ChipFault leads none = absurd none
-run_shows s good better left left_now w w_now source sink limit (BadImage fault) leads none = absurd none
-run_shows s good better left left_now w w_now source sink limit (BadCapture offset fault) leads none = absurd none
+pub run_shows : (s : Sizes) (good better : Progress → Type 0) (left left_now w w_now : Option (List ℕ)) (limit : ℕ) (status : Status) → ((p : Progress) → good p → better p)
+    → RunIs s good left left_now w w_now limit status → RunIs s better left left_now w w_now limit status
+run_shows s good better left left_now w w_now limit Done leads (mid, n, ran, few, ends) = (mid, n, ran_with s left mid n _ _ ran (leads _ ran.shows.0, ran.shows.1), few, ends)
+run_shows s good better left left_now w w_now limit (BadLine number) leads (mid, behind, n, ran, few, is, bad, ahead) = (mid, behind, n, ran_with s left mid n _ _ ran (leads _ ran.shows.0, ran.shows.1), few, is, bad, ahead)
+run_shows s good better left left_now w w_now limit ReadFault leads (mid, n, ran, few, stops) = (mid, n, ran_with s left mid n _ _ ran (leads _ ran.shows.0, ran.shows.1), few, stops)
+run_shows s good better left left_now w w_now limit LongTrace leads (mid, ran, more, ahead) = (mid, ran_with s left mid limit _ _ ran (leads _ ran.shows.0, ran.shows.1), more, ahead)
+run_shows s good better left left_now w w_now limit WriteFault leads (mid, n, last, words, ran, well, cut) = (mid, n, last, words, ran, leads last well, cut)
+run_shows s good better left left_now w w_now limit Usage leads none = absurd none
+run_shows s good better left left_now w w_now limit Memory leads none = absurd none
+run_shows s good better left left_now w w_now limit BadGeometry leads none = absurd none
+run_shows s good better left left_now w w_now limit ChipFault leads none = absurd none
+run_shows s good better left left_now w w_now limit (BadImage fault) leads none = absurd none
+run_shows s good better left left_now w w_now limit (BadCapture offset fault) leads none = absurd none
 
 -- a text that is at its end has nothing left in its source
-ends_in_source : (mid : Option (List ℕ)) (held : List ℕ) (left : Option (List ℕ)) → WhereTold EndsAt mid (prepend_known held left) → WhereTold EndsAt mid left
+pub ends_in_source : (mid : Option (List ℕ)) (held : List ℕ) (left : Option (List ℕ)) → WhereTold EndsAt mid (prepend_known held left) → WhereTold EndsAt mid left
 ends_in_source None held left ends = tt
 ends_in_source (Some text) held None ends = absurd ends
 ends_in_source (Some text) [] (Some rest) ends = ends
@@ -108,69 +122,45 @@ ends_in_source (Some text) (x ∷ held) (Some rest) ends = absurd (is_none ends.
     is_none : x ∷ (held ++ rest) ≡ [] → ⊥
     is_none is = cc
 
-run_from_source : (s : Sizes) (good : Progress → Type 0) (left left_now w w_now : Option (List ℕ)) (held : List ℕ) (source sink : Type 0) (limit : ℕ) (status : Status)
-    → RunIs s good left (prepend_known held left_now) w w_now source sink limit status → RunIs s good left left_now w w_now source sink limit status
-run_from_source s good left left_now w w_now held source sink limit Done (mid, n, ran, ends) = (mid, n, ran, ends_in_source mid held left_now ends)
-run_from_source s good left left_now w w_now held source sink limit (BadLine number) run = run
-run_from_source s good left left_now w w_now held source sink limit ReadFault run = run
-run_from_source s good left left_now w w_now held source sink limit LongTrace run = run
-run_from_source s good left left_now w w_now held source sink limit WriteFault run = run
-run_from_source s good left left_now w w_now held source sink limit Usage run = absurd run
-run_from_source s good left left_now w w_now held source sink limit Memory run = absurd run
-run_from_source s good left left_now w w_now held source sink limit BadGeometry run = absurd run
-run_from_source s good left left_now w w_now held source sink limit ChipFault run = absurd run
-run_from_source s good left left_now w w_now held source sink limit (BadImage fault) run = absurd run
-run_from_source s good left left_now w w_now held source sink limit (BadCapture offset fault) run = absurd run
-
 -- a replay that ended is what the program ends with
-program_of : (words : List (List ℕ)) (geometry : Geometry) (good : Progress → Type 0) (same : Type 0) (left left_now w w_now : Option (List ℕ)) (source sink : Type 0) (limit : ℕ) (status : Status)
-    → IsPlanned words geometry → RunIs (sizes_on (named_unit words) geometry) good left left_now w w_now source sink limit status → ProgramIs words geometry good same left left_now w w_now source sink limit status
-program_of words geometry good same left left_now w w_now source sink limit Done planned run = (planned, run)
-program_of words geometry good same left left_now w w_now source sink limit (BadLine number) planned run = (planned, run)
-program_of words geometry good same left left_now w w_now source sink limit ReadFault planned run = (planned, run)
-program_of words geometry good same left left_now w w_now source sink limit LongTrace planned run = (planned, run)
-program_of words geometry good same left left_now w w_now source sink limit WriteFault planned run = inr (planned, run)
-program_of words geometry good same left left_now w w_now source sink limit Usage planned run = absurd run
-program_of words geometry good same left left_now w w_now source sink limit Memory planned run = absurd run
-program_of words geometry good same left left_now w w_now source sink limit BadGeometry planned run = absurd run
-program_of words geometry good same left left_now w w_now source sink limit ChipFault planned run = absurd run
-program_of words geometry good same left left_now w w_now source sink limit (BadImage fault) planned run = absurd run
-program_of words geometry good same left left_now w w_now source sink limit (BadCapture offset fault) planned run = absurd run
+program_of : (words : List (List ℕ)) (geometry : Geometry) (good : Progress → Type 0) (same : Type 0) (left left_now w w_now : Option (List ℕ)) (limit : ℕ) (status : Status)
+    → IsPlanned words geometry → RunIs (sizes_on (named_unit words) geometry) good left left_now w w_now limit status → ProgramIs words geometry good same left left_now w w_now limit status
+program_of words geometry good same left left_now w w_now limit Done planned run = (planned, run)
+program_of words geometry good same left left_now w w_now limit (BadLine number) planned run = (planned, run)
+program_of words geometry good same left left_now w w_now limit ReadFault planned run = (planned, run)
+program_of words geometry good same left left_now w w_now limit LongTrace planned run = (planned, run)
+program_of words geometry good same left left_now w w_now limit WriteFault planned run = inr (planned, run)
+program_of words geometry good same left left_now w w_now limit Usage planned run = absurd run
+program_of words geometry good same left left_now w w_now limit Memory planned run = absurd run
+program_of words geometry good same left left_now w w_now limit BadGeometry planned run = absurd run
+program_of words geometry good same left left_now w w_now limit ChipFault planned run = absurd run
+program_of words geometry good same left left_now w w_now limit (BadImage fault) planned run = absurd run
+program_of words geometry good same left left_now w w_now limit (BadCapture offset fault) planned run = absurd run
 
 -- the promise of a run, in terms of the chip
-pub run_of_chip : (words : List (List ℕ)) (geometry : Geometry) (start now : DeviceState) (pages back : List Page) (faults faults_back : ℕ) (same : Type 0) (left left_now w w_now : Option (List ℕ)) (held held_now : List ℕ) (source sink : Type 0) (limit : ℕ) (status : Status)
+pub run_of_chip : (words : List (List ℕ)) (geometry : Geometry) (start now : DeviceState) (pages back : List Page) (faults faults_back : ℕ) (same : Type 0) (left left_now w w_now : Option (List ℕ)) (held : List ℕ) (limit : ℕ) (status : Status)
     → IsPlanned words geometry → IsFresh start (named_unit words) geometry pages faults → held ≡ [] → back ≡ now.store.pages → faults_back ≡ now.store.faults
-    → RunIs (sizes_of start) (IsLeft start now) (prepend_known held left) (prepend_known held_now left_now) w w_now source sink limit status
-    → ProgramIs words geometry (λ p. IsTranscript (named_unit words) geometry faults faults_back back p.events) same left left_now w w_now source sink limit status
-run_of_chip words geometry start now pages back faults faults_back same left left_now w w_now held held_now source sink limit status planned fresh none is_back is_faults run =
+    → RunIs (sizes_of start) (IsLeft start now) (prepend_known held left) left_now w w_now limit status
+    → ProgramIs words geometry (λ p. IsTranscript (named_unit words) geometry faults faults_back back p.events) same left left_now w w_now limit status
+run_of_chip words geometry start now pages back faults faults_back same left left_now w w_now held limit status planned fresh none is_back is_faults run =
     let good : Progress → Type 0 = λ p. IsTranscript (named_unit words) geometry faults faults_back back p.events in
     let from : prepend_known held left ≡ left = ap (λ (l : List ℕ). prepend_known l left) none ∙ prepend_known-nil left in
-    let run1 : RunIs (sizes_on (named_unit words) geometry) (IsLeft start now) left (prepend_known held_now left_now) w w_now source sink limit status =
-    subst (λ (s : Sizes). RunIs s (IsLeft start now) left (prepend_known held_now left_now) w w_now source sink limit status) (fresh_sizes start (named_unit words) geometry pages faults fresh)
-    (subst (λ (l : Option (List ℕ)). RunIs (sizes_of start) (IsLeft start now) l (prepend_known held_now left_now) w w_now source sink limit status) from run) in
-    program_of words geometry good same left left_now w w_now source sink limit status planned
-    (run_from_source (sizes_on (named_unit words) geometry) good left left_now w w_now held_now source sink limit status
-    (run_shows (sizes_on (named_unit words) geometry) (IsLeft start now) good left (prepend_known held_now left_now) w w_now source sink limit status (λ p at. left_transcript start now (named_unit words) geometry pages back faults faults_back p fresh is_back is_faults at) run1))
+    let run1 : RunIs (sizes_on (named_unit words) geometry) (IsLeft start now) left left_now w w_now limit status =
+    subst (λ (s : Sizes). RunIs s (IsLeft start now) left left_now w w_now limit status) (fresh_sizes start (named_unit words) geometry pages faults fresh)
+    (subst (λ (l : Option (List ℕ)). RunIs (sizes_of start) (IsLeft start now) l left_now w w_now limit status) from run) in
+    program_of words geometry good same left left_now w w_now limit status planned
+    (run_shows (sizes_on (named_unit words) geometry) (IsLeft start now) good left left_now w w_now limit status (λ p at. left_transcript start now (named_unit words) geometry pages back faults faults_back p fresh is_back is_faults at) run1)
 
 -- what was shown of a text that comes from a source alone
-pub show_from_source : (left left_now w w_now : Option (List ℕ)) (held held_now : List ℕ) (source sink : Type 0) (limit : ℕ) (status : Status) → held ≡ []
-    → ShowIs (prepend_known held left) (prepend_known held_now left_now) w w_now source sink limit status → ShowProgramIs left left_now w w_now source sink limit status
-show_from_source left left_now w w_now held held_now source sink limit status none is =
-    show_by_status left left_now w w_now held_now source sink limit status
-    (subst (λ (l : Option (List ℕ)). ShowIs l (prepend_known held_now left_now) w w_now source sink limit status) (ap (λ (l : List ℕ). prepend_known l left) none ∙ prepend_known-nil left) is)
+pub show_from_source : (left left_now w w_now : Option (List ℕ)) (held : List ℕ) (limit : ℕ) (status : Status) → held ≡ []
+    → ShowIs (prepend_known held left) left_now w w_now limit status → ShowProgramIs left left_now w w_now limit status
+show_from_source left left_now w w_now held limit status none is =
+    show_by_status left left_now w w_now limit status
+    (subst (λ (l : Option (List ℕ)). ShowIs l left_now w w_now limit status) (ap (λ (l : List ℕ). prepend_known l left) none ∙ prepend_known-nil left) is)
   where
-    show_by_status : (left left_now w w_now : Option (List ℕ)) (held : List ℕ) (source sink : Type 0) (limit : ℕ) (status : Status) → ShowIs left (prepend_known held left_now) w w_now source sink limit status → ShowProgramIs left left_now w w_now source sink limit status
-    show_by_status left left_now w w_now held source sink limit Done (mid, n, text, shows, all, ends) = (mid, n, text, shows, all, ends_in_source mid held left_now ends)
-    show_by_status left left_now w w_now held source sink limit (BadLine number) is = is
-    show_by_status left left_now w w_now held source sink limit ReadFault is = is
-    show_by_status left left_now w w_now held source sink limit LongTrace is = is
-    show_by_status left left_now w w_now held source sink limit WriteFault is = is
-    show_by_status left left_now w w_now held source sink limit Usage is = absurd is
-    show_by_status left left_now w w_now held source sink limit Memory is = absurd is
-    show_by_status left left_now w w_now held source sink limit BadGeometry is = absurd is
-    show_by_status left left_now w w_now held source sink limit ChipFault is = absurd is
-    show_by_status left left_now w w_now held source sink limit (BadImage fault) is = absurd is
-    show_by_status left left_now w w_now held source sink limit (BadCapture offset fault) is = absurd is
+    show_by_status : (left left_now w w_now : Option (List ℕ)) (limit : ℕ) (status : Status) → ShowIs left left_now w w_now limit status → ShowProgramIs left left_now w w_now limit status
+    show_by_status left left_now w w_now limit Memory is = absurd is
+    show_by_status left left_now w w_now limit _ is = is
 
 uncut : (shape : Shape) → shape.units ≤ 2 ^ 32 - 1 → shape.region_exp ≤ 255 → shape.sub_exp ≤ 255 → shape.held ≤ 255 → cut_shape shape ≡ shape
 uncut shape units region sub held =
@@ -218,10 +208,10 @@ other_chip a b differs test some same =
 
 -- a run that is refused
 
-pub refused_geometry : (words : List (List ℕ)) (geometry : Geometry) (good : Progress → Type 0) (same : Type 0) (left left_now w w_now : Option (List ℕ)) (source sink : Type 0) (limit : ℕ) (status : Status)
-    → IsReplay words → ¬ IsNamed words geometry → same → ((status ≡ BadGeometry) × Appends w w_now geometry_text) ⊎ ((status ≡ WriteFault) × AppendsFront w w_now geometry_text × sink)
-    → ProgramIs words geometry good same left left_now w w_now source sink limit status
-refused_geometry words geometry good same left left_now w w_now source sink limit status replay differs kept (inl (is, all)) =
-    subst (λ (s : Status). ProgramIs words geometry good same left left_now w w_now source sink limit s) (sym is) (replay, differs, kept, all)
-refused_geometry words geometry good same left left_now w w_now source sink limit status replay differs kept (inr (is, cut, rose)) =
-    subst (λ (s : Status). ProgramIs words geometry good same left left_now w w_now source sink limit s) (sym is) (inl (geometry_text, inr (replay, differs, refl), kept, cut, rose))
+pub refused_geometry : {A B : Type 0} (words : List (List ℕ)) (geometry : Geometry) (good : Progress → Type 0) (same : Type 0) (left left_now w w_now : Option (List ℕ)) (limit : ℕ) (status : Status)
+    → IsReplay words → ¬ IsNamed words geometry → same → ((status ≡ BadGeometry) × Appends w w_now geometry_text × A) ⊎ ((status ≡ WriteFault) × AppendsFront w w_now geometry_text × B)
+    → ProgramIs words geometry good same left left_now w w_now limit status
+refused_geometry words geometry good same left left_now w w_now limit status replay differs kept (inl (is, all, _)) =
+    subst (λ (s : Status). ProgramIs words geometry good same left left_now w w_now limit s) (sym is) (replay, differs, kept, all)
+refused_geometry words geometry good same left left_now w w_now limit status replay differs kept (inr (is, cut, _)) =
+    subst (λ (s : Status). ProgramIs words geometry good same left left_now w w_now limit s) (sym is) (inl (geometry_text, inr (replay, differs, refl), kept, cut))

@@ -7,7 +7,7 @@ use Rattle.flat_unit.specs.Replays.{Progress}
 use Rattle.flat_unit.specs.Trace.{Line}
 use Rattle.hpb_device.specs.State.{DeviceState}
 use Rattle.trace_text.specs.Grammar.{trace_line}
-use Rattle.trace_text.specs.Lines.{TakesLine, BeginsLong, WhereTold}
+use Rattle.trace_text.specs.Lines.{IsLine, TakesLine, BeginsLong, WhereTold}
 use Rattle.trace_replay.specs.Moments.{LineIs}
 use Rattle.trace_replay.specs.Run.{IsLong, TurnAt}
 use Rattle.trace_replay.specs.declared.replay.Turn.{Turn}
@@ -25,17 +25,18 @@ long_text_of (Some xs) held (Some rest) same long = subst BeginsLong same (long_
 
 -- a line that was taken and parsed is served, refused or cut
 pub turn_served : (start : DeviceState) (before : Option (List ℕ)) (p : Progress) (old new : DeviceState) (left left_now written : Option (List ℕ)) (gathered : List ℕ) (text : List ℕ) (line : Line) (turn : Turn)
-    → WhereTold (TakesLine text) left left_now → trace_line text ≡ Some line → LineIs line start old new p before written gathered turn → TurnAt start before p old new left left_now written gathered turn
-turn_served start before p old new left left_now written gathered text line Served taken parsed is = (text, line, taken, parsed, is.0, is.1)
-turn_served start before p old new left left_now written gathered text line Bad taken parsed is = (inr (text, left_now, taken, inr (line, parsed, is.refused)), is.store, is.printed)
-turn_served start before p old new left left_now written gathered text line Unwritten taken parsed is = record {
+    → IsLine text → WhereTold (TakesLine text) left left_now → trace_line text ≡ Some line → LineIs line start old new p before written gathered turn
+    → TurnAt start before p old new left left_now written gathered turn
+turn_served start before p old new left left_now written gathered text line Served one taken parsed is = (text, line, one, taken, parsed, is.0, is.1)
+turn_served start before p old new left left_now written gathered text line Bad one taken parsed is = (inr (text, taken, inr (line, parsed, is.refused)), is.store, is.printed)
+turn_served start before p old new left left_now written gathered text line Unwritten one taken parsed is = record {
   moment = is.moment;
   reached = inr (text, left_now, line, taken, parsed, is.reached);
   standing = is.standing;
   printed = is.printed;
 }
-turn_served start before p old new left left_now written gathered text line Ended taken parsed is = absurd is
-turn_served start before p old new left left_now written gathered text line Unread taken parsed is = absurd is
+turn_served start before p old new left left_now written gathered text line Ended one taken parsed is = absurd is
+turn_served start before p old new left left_now written gathered text line Unread one taken parsed is = absurd is
 
 -- a room that was written whole
 pub whole_room : (room rest : List ℕ) (count : ℕ) → length room ≡ count → take count (room ++ rest) ≡ room

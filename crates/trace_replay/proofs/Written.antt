@@ -1,11 +1,11 @@
 -- Texts that are written one after another.
-use Rattle.std.proofs.Common.{◌≡◌, ℕ, List, [], ◌++◌, take, drop, Option, Some, None, Result, Ok, Err, refl, sym, ◌∙◌, ap, subst, take-append-drop}
+use Rattle.std.proofs.Common.{◌≡◌, ℕ, List, [], ◌++◌, take, drop, Option, Some, None, Result, Ok, Err, refl, sym, ◌∙◌, ap, subst, take-append-drop, ◌⊎◌, inl, inr}
 use Rattle.std.proofs.lemmas.List.{append_assoc, append-nil}
-use Rattle.std.specs.Prelude.{MatchResult, IsErr}
+use Rattle.std.specs.Prelude.{MatchResult, IsErr, OnOk}
 use Rattle.std.specs.Io.KnownBytes.{Appends, Keeps}
 use Rattle.std.proofs.lemmas.Result.{MatchResult-weaker}
 use Rattle.std.proofs.lemmas.Bool.{false≢true}
-use Rattle.trace_replay.specs.Writes.{AppendsFront, HasWrittenUpTo, KeepsText, Writes}
+use Rattle.trace_replay.specs.Writes.{AppendsFront, Grows, HasWrittenUpTo, KeepsText, Writes, WritesAll}
 
 pub appends_nothing : (known : Option (List ℕ)) → Appends known known []
 appends_nothing None = tt
@@ -72,3 +72,55 @@ cut_of (Err x) P Q failed told = told
 pub whole_of : {T E : Type 0} (r : Result T E) (P Q : Type 0) → ¬ IsErr r → MatchResult r (λ _. P) (λ _. Q) → P
 whole_of (Ok x) P Q worked told = told
 whole_of (Err x) P Q worked told = absurd (worked refl)
+
+-- text that was written stays, and more may follow
+pub grows_none : (known : Option (List ℕ)) → Grows known known
+grows_none known = ([], appends_nothing known)
+
+pub grows_more : (a b c : Option (List ℕ)) → Grows a b → Grows b c → Grows a c
+grows_more a b c first then = (first.0 ++ then.0, appends_more a b c first.0 then.0 first.1 then.1)
+
+-- a call that keeps a text writes a front of it
+pub keeps_grows : {T E : Type 0} (old new : Option (List ℕ)) (gathered gathered_now : List ℕ) (r : Result T E) → KeepsText old new gathered gathered_now r → Grows old new
+keeps_grows old new gathered gathered_now (Ok x) keeps = let up_to = keeps old gathered (nothing_yet old gathered) in (up_to.front, up_to.appended)
+keeps_grows old new gathered gathered_now (Err x) keeps = let cut = keeps old gathered (nothing_yet old gathered) in (cut.front, cut.appended)
+
+-- all that was gathered is written where nothing is gathered then
+pub writes_all : {T E : Type 0} (old new : Option (List ℕ)) (gathered gathered_now : List ℕ) (r : Result T E) → KeepsText old new gathered gathered_now r → ¬ IsErr r → gathered_now ≡ []
+    → Appends old new gathered
+writes_all old new gathered gathered_now r keeps worked none =
+    up_to_end old new gathered gathered_now none (whole_of r _ _ worked (keeps old gathered (nothing_yet old gathered)))
+
+pub writes_all_then : (a b c : Option (List ℕ)) (text : List ℕ) → Appends a b text → Grows b c → WritesAll a c text
+writes_all_then a b c text first then = (then.0, appends_more a b c text then.0 first then.1)
+
+pub keeps_same : (known : Option (List ℕ)) → Keeps known known
+keeps_same None = tt
+keeps_same (Some xs) = refl
+
+-- what is so of an answer that is no failure
+pub of_ok : {T E : Type 0} (r : Result T E) (P : Type 0) → ¬ IsErr r → OnOk r P → P
+of_ok (Ok x) P worked is = is
+of_ok (Err x) P worked is = absurd (worked refl)
+
+-- the source was not asked, or all that was gathered was written before
+pub asked_after : {T E : Type 0} (same holds : Type 0) (old mid new : Option (List ℕ)) (gathered gathered_now : List ℕ) (r : Result T E) → KeepsText old mid gathered gathered_now r → ¬ IsErr r
+    → OnOk r (holds ⊎ (gathered_now ≡ [])) → (holds → same) → Grows mid new → same ⊎ WritesAll old new gathered
+asked_after same holds old mid new gathered gathered_now r keeps worked all still grows = by_holds (of_ok r (holds ⊎ (gathered_now ≡ [])) worked all)
+  where
+    by_holds : holds ⊎ (gathered_now ≡ []) → same ⊎ WritesAll old new gathered
+    by_holds (inl held) = inl (still held)
+    by_holds (inr none) = inr (writes_all_then old mid new gathered (writes_all old mid gathered gathered_now r keeps worked none) grows)
+
+-- what was gathered is written where the next line isn't held
+pub empty_unless : {T E : Type 0} (holds : Type 0) (gathered : List ℕ) (r : Result T E) → ¬ IsErr r → OnOk r (holds ⊎ (gathered ≡ [])) → ¬ holds → gathered ≡ []
+empty_unless holds gathered r worked all other = by_holds (of_ok r (holds ⊎ (gathered ≡ [])) worked all)
+  where
+    by_holds : holds ⊎ (gathered ≡ []) → gathered ≡ []
+    by_holds (inl held) = absurd (other held)
+    by_holds (inr none) = none
+
+-- where nothing is gathered, nothing is after a call that keeps it or writes it
+pub still_none : (old new : List ℕ) → old ≡ [] → (new ≡ old) ⊎ (new ≡ []) → new ≡ []
+still_none old new none (inl same) = same ∙ none
+still_none old new none (inr is) = is

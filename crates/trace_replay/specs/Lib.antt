@@ -1,4 +1,7 @@
 pub mod Moments
+pub mod ByText
+pub mod Headline
+pub mod Limits
 pub mod Run
 pub mod Showing
 pub mod Status

@@ -1,24 +1,29 @@
 -- Where a device and a text stand while a trace is replayed.
-use Rattle.std.specs.Prelude.{◌≡◌, ℕ, ◌≤◌, true, List, Option, Result, MatchResult}
+use Rattle.std.specs.Prelude.{◌≡◌, ℕ, ◌*◌, ◌≤◌, true, List, Option, Result, MatchResult}
 use Rattle.std.specs.List.{AllByRecursion}
-use Rattle.flat_unit.specs.Causes.{FailuresWithin}
+use Rattle.flat_unit.specs.Causes.{FailuresAre}
 use Rattle.flat_unit.specs.Print.{print}
 use Rattle.flat_unit.specs.Replays.{OpenRun, Progress, StepsTo, LineTo, enough, tasks_at, with_run, without_runs}
 use Rattle.flat_unit.specs.Sizes.{Sizes}
-use Rattle.flat_unit.specs.Writes.{moves}
 use Rattle.flat_unit.specs.Trace.{Line, Upiu, Steps, Collect, Drain, ResetLine, Blank}
 use Rattle.hpb_device.specs.Advance.{IsSameStore}
+use Rattle.hpb_device.specs.Entries.{EntriesStand}
+use Rattle.hpb_device.specs.Listed.{ListingStands}
 use Rattle.hpb_device.specs.Standing.{DeviceStands, first_of, sizes_of}
 use Rattle.hpb_device.specs.State.{DeviceState, AtRest, steps_left}
 use Rattle.hpb_device.specs.Task.{WasSilent}
 use Rattle.trace_replay.specs.declared.replay.Turn.{Turn}
 use Rattle.trace_replay.specs.declared.replay.Turn.TheVariants.{Served, Bad, Unwritten}
-use Rattle.trace_replay.specs.Transcript.{NeverDead}
+use Rattle.trace_replay.specs.Transcript.{IsPlain, none_written}
 use Rattle.trace_replay.specs.Writes.{AppendsFront, HasWrittenUpTo}
 
 -- a device that can go on has no more steps left than a run lacks
 abbrev pub LacksEnough : DeviceState → OpenRun → Type 0
 LacksEnough now run = ¬ AtRest now → steps_left now ≤ run.lacks
+
+-- the pages of a device's chip
+abbrev pub pages_in : DeviceState → ℕ
+pages_in device = device.store.geometry.blocks * device.store.geometry.pages
 
 -- a device that began without events now stands at those of this moment
 pub record Standing (start now : DeviceState) (p : Progress) : Type 0 where
@@ -26,9 +31,10 @@ pub record Standing (start now : DeviceState) (p : Progress) : Type 0 where
   pub stands : DeviceStands now (first_of start) p.events
   pub sizes : sizes_of now ≡ sizes_of start
   pub same : IsSameStore start.store now.store
-  pub faults : FailuresWithin start.store.faults now.store.faults p.events
-  pub unmoved : moves p.events ≡ 0
-  pub alive : NeverDead p.events
+  pub faults : FailuresAre start.store.faults now.store.faults p.events
+  pub plain : IsPlain p.events
+  pub entries : EntriesStand now p.events
+  pub listings : ListingStands none_written (pages_in start) now p.events
   pub lacking : AllByRecursion (LacksEnough now) p.runs
   pub tried : p.tried ≡ true → WasSilent now.tasks
 
@@ -49,7 +55,8 @@ CutLineTo s Drain p now = (n : ℕ) × (n ≤ enough s (tasks_at s p)) × StepsT
 CutLineTo s _ p now = ⊥
 
 -- a call led to a moment of this kind, whose text is written but for what is gathered
-pub record Leads (next : Progress → Type 0) (start now : DeviceState) (before written : Option (List ℕ)) (gathered : List ℕ) : Type 0 where
+pub record Leads (next : Progress
+    → Type 0) (start now : DeviceState) (before written : Option (List ℕ)) (gathered : List ℕ) : Type 0 where
   pub moment : Progress
   pub reached : next moment
   pub standing : Standing start now moment
@@ -69,21 +76,28 @@ pub record Refuses (line : Line) (old new : DeviceState) (p : Progress) (before 
   pub printed : HasWrittenUpTo before written (print p.events) gathered
 
 -- a call serves a line, from wherever it begins
-abbrev pub Serves : {T E : Type 0} → Line → (old new : DeviceState) (written written_now : Option (List ℕ)) (gathered gathered_now : List ℕ) → Result T E → Type 0
+abbrev pub Serves : {T E : Type 0} → Line
+    → (old new : DeviceState) (written written_now : Option (List ℕ)) (gathered gathered_now : List ℕ) → Result T E
+    → Type 0
 Serves line old new written written_now gathered gathered_now result =
-    (start : DeviceState) (before : Option (List ℕ)) (p : Progress) → Standing start old p → HasWrittenUpTo before written (print p.events) gathered
+    (start : DeviceState) (before : Option (List ℕ)) (p : Progress) → Standing start old p
+    → HasWrittenUpTo before written (print p.events) gathered
     → MatchResult result (λ _. Leads (LineTo (sizes_of start) line p) start new before written_now gathered_now)
     (λ _. Cuts (CutLineTo (sizes_of start) line p) start new before written_now)
 
 -- what a line comes to, from wherever it begins
-abbrev pub LineIs : Line → (start old new : DeviceState) (p : Progress) (before written : Option (List ℕ)) (gathered : List ℕ) → Turn → Type 0
+abbrev pub LineIs : Line
+    → (start old new : DeviceState) (p : Progress) (before written : Option (List ℕ)) (gathered : List ℕ) → Turn
+    → Type 0
 LineIs line start old new p before written gathered Served =
     IsServedLine line × Leads (LineTo (sizes_of start) line p) start new before written gathered
 LineIs line start old new p before written gathered Bad = Refuses line old new p before written gathered
 LineIs line start old new p before written gathered Unwritten = Cuts (CutLineTo (sizes_of start) line p) start new before written
 LineIs line start old new p before written gathered _ = ⊥
 
-abbrev pub TurnServes : Line → (old new : DeviceState) (written written_now : Option (List ℕ)) (gathered gathered_now : List ℕ) → Turn → Type 0
+abbrev pub TurnServes : Line
+    → (old new : DeviceState) (written written_now : Option (List ℕ)) (gathered gathered_now : List ℕ) → Turn → Type 0
 TurnServes line old new written written_now gathered gathered_now turn =
-    (start : DeviceState) (before : Option (List ℕ)) (p : Progress) → Standing start old p → HasWrittenUpTo before written (print p.events) gathered
+    (start : DeviceState) (before : Option (List ℕ)) (p : Progress) → Standing start old p
+    → HasWrittenUpTo before written (print p.events) gathered
     → LineIs line start old new p before written_now gathered_now turn

@@ -16,7 +16,8 @@ use Rattle.trace_replay.specs.Words.{IsReplay, IsShow, is_number, name_of, named
 
 -- the option of this name
 unfoldable pub option_named : List ℕ → Option OptionName
-option_named word = find (λ (option : OptionName). bytes_eq word (name_of option)) (Blocks ∷ Pages ∷ Units ∷ Region ∷ Sub ∷ Held ∷ Mode ∷ [])
+option_named word = find (λ (option : OptionName). bytes_eq word (name_of option)) (Blocks ∷ Pages ∷ Units ∷ Region
+    ∷ Sub ∷ Held ∷ Mode ∷ [])
 
 unfoldable pub number_said : List ℕ → Option ℕ
 number_said word = if is_number word then Some (digits_value 10 word) else None
@@ -71,5 +72,6 @@ cut_shape shape = record {
 
 -- the words are this command; those of `replay` name the chip, and the unit as far as its fields count
 abbrev pub IsCommand : List (List ℕ) → Command → Type 0
-IsCommand words (Replay named) = IsReplay words × (named.chip ≡ named_chip words) × (named.unit ≡ cut_shape (named_unit words))
+IsCommand words (Replay named) = IsReplay words × (named.chip ≡ named_chip words)
+    × (named.unit ≡ cut_shape (named_unit words))
 IsCommand words Show = IsShow words

@@ -1,14 +1,18 @@
 -- What a run promises of the events that it prints, and of the chip that it hands back.
-use Rattle.std.specs.Prelude.{◌≡◌, ⊤, ℕ, ◌*◌, List, [], ◌∷◌, replicate, Contains, Some}
+use Rattle.std.specs.Prelude.{◌≡◌, ⊤, ℕ, ◌*◌, Bool, false, List, [], ◌∷◌, replicate, Contains, Some}
 use Rattle.flash_pages.specs.declared.chip.Geometry.{Geometry}
 use Rattle.flash_pages.specs.Chip.{Page, zeros}
 use Rattle.flash_pages.specs.Place.{Place, IsPlace}
-use Rattle.flash_pages.specs.Unit.{unit_of}
+use Rattle.flash_pages.specs.Unit.{current, unit_of}
 use Rattle.region_state.specs.declared.shape.Shape.{Shape}
 use Rattle.flat_unit.specs.declared.event.Event.TheVariants.{Device, Reset}
-use Rattle.flat_unit.specs.Causes.{Caused, FailuresWithin, sense_code}
+use Rattle.flat_unit.specs.Causes.{Caused, FailuresAre, sense_code}
 use Rattle.flat_unit.specs.Contents.{Block, block_at, candidates}
 use Rattle.flat_unit.specs.History.{History, ◌▹◌}
+use Rattle.flat_unit.specs.Entries.{Told}
+use Rattle.flat_unit.specs.Hintless.{NeverHints}
+use Rattle.flat_unit.specs.Laws.{AreShort, HaveRoom}
+use Rattle.flat_unit.specs.Pages.{KeepsFresh}
 use Rattle.flat_unit.specs.Sizes.{Sizes}
 use Rattle.flat_unit.specs.Sound.{Sound}
 use Rattle.flat_unit.specs.Writes.{moves}
@@ -29,13 +33,28 @@ NeverDead [] = ⊤
 NeverDead (Device bytes ∷ e) = NeverDead e × ¬ (sense_code bytes ≡ Some 0x44)
 NeverDead (_ ∷ e) = NeverDead e
 
--- The events are sound over a unit of zeros and each ending has its cause; no block is moved and no task ends with 44/00;
--- no more calls of the chip failed than its count rose; and each block of the chip is one that the flat unit allows once
--- all tasks are dropped.
-pub record IsTranscript (shape : Shape) (geometry : Geometry) (faults faults_back : ℕ) (back : List Page) (e : History) : Type 0 where
-  pub sound : Sound (sizes_on shape geometry) (zero_unit shape) e
-  pub caused : Caused (sizes_on shape geometry) ⊥ 0 e
+-- The bytes of each event are bytes, and no more than a UPIU of its side has. Of what isn't built yet there is nothing: no
+-- page is moved, no RESPONSE tells that the unit has failed for good, and no GOOD carries a hint.
+pub record IsPlain (e : History) : Type 0 where
+  pub bytes : HaveRoom e
+  pub short : AreShort e
   pub unmoved : moves e ≡ 0
   pub alive : NeverDead e
-  pub failures : FailuresWithin faults faults_back e
-  pub allowed : (p : Place) → IsPlace 1 shape.units p → Contains (candidates (sizes_on shape geometry) (zero_unit shape) (e ▹ Reset) p) (block_at (sizes_on shape geometry) (unit_of 1 shape.units back) p)
+  pub hintless : NeverHints e
+
+-- no place has a page on an erased chip
+abbrev pub none_written : Place → Bool
+none_written p = false
+
+-- The events are plain and sound over a unit of zeros, and each ending has its cause. The calls of the chip that failed are
+-- those that its count tells. Each block of the chip is one that the flat unit allows once all tasks are dropped. Each entry
+-- that READ BUFFER listed told whether its block had a page, and each that is fresh is the number of its block's page.
+pub record IsTranscript (shape : Shape) (geometry : Geometry) (faults faults_back : ℕ) (back : List Page) (e : History) : Type 0 where
+  pub plain : IsPlain e
+  pub sound : Sound (sizes_on shape geometry) (zero_unit shape) e
+  pub caused : Caused (sizes_on shape geometry) ⊥ 0 e
+  pub failures : FailuresAre faults faults_back e
+  pub allowed : (p : Place) → IsPlace 1 shape.units p
+      → Contains (candidates (sizes_on shape geometry) (zero_unit shape) (e ▹ Reset) p) (block_at (sizes_on shape geometry) (unit_of 1 shape.units back) p)
+  pub told : Told (sizes_on shape geometry) (geometry.blocks * geometry.pages) none_written e
+  pub entries : KeepsFresh (sizes_on shape geometry) (current back) e

@@ -1,30 +1,18 @@
 //! Hosts and chips that do what they shouldn't: whole runs, whose transcripts are judged by `oracle`.
 use super::*;
 use crate::oracle::{Sizes, Verdict, judge};
+use crate::tests::Outside;
 use crate::texts::push_words;
-use flash_pages::{Geometry, MemFlash};
-use hpb_outside::{MemSink, MemSource};
 use std::alloc::Global;
 use std::process::Abort;
 use std::test::Fail;
 
-/// The words of a replay over `CHIP`.
-const WORDS: [&str; 5] = ["replay", "--blocks", "8", "--pages", "4"];
-
-/// A chip whose unit has 20 blocks.
-const CHIP: Geometry = Geometry {
-    blocks: 8,
-    pages: 4,
-};
-
+/// The sizes of the device of these runs.
 const SIZES: Sizes = Sizes {
     luns: 1,
     units: 20,
     pages: 32,
 };
-
-/// More than any of these runs prints.
-const ROOM: usize = 1_000_000;
 
 /// A block is written and read back.
 const ONE_BLOCK: [&str; 6] = [
@@ -111,23 +99,18 @@ impl Ran {
 
 /// Replays a trace over a chip, of whose calls those with these numbers fail.
 fn replay(alloc: Global, trace: &[u8], calls: &[u64]) -> Result<Ran, Fail> {
-    let mut words = Vec::new(alloc);
-    for word in WORDS {
-        words.push(String::from_str(alloc, word)?)?;
-    }
-    let mut source = MemSource::new(trace.to_vec(alloc)?, Vec::new(alloc), Vec::new(alloc));
-    let mut sink = MemSink::new(alloc, ROOM, Vec::new(alloc))?;
-    let flash = MemFlash::new(alloc, CHIP, calls.to_vec(alloc)?)?;
-    let status = run(alloc, &words, &mut source, &mut sink, flash).status;
-    let end = match status {
+    let mut outside = Outside::faultless(alloc);
+    outside.calls.extend_from_slice(calls)?;
+    let ran = crate::tests::replay(alloc, trace, outside)?;
+    let end = match ran.status {
         Status::BadLine(number) => format!(in alloc; "E line {number}\n")?,
         _ => String::new(alloc),
     };
-    let Some(text) = sink.bytes().strip_suffix(end.as_bytes()) else {
+    let Some(text) = ran.printed.strip_suffix(end.as_bytes()) else {
         return Err(Fail::new("the last line isn't that of the status"));
     };
     Ok(Ran {
-        status,
+        status: ran.status,
         text: text.to_vec(alloc)?,
         verdict: judge(alloc, SIZES, text)?,
     })
@@ -149,32 +132,27 @@ fn flip(digit: u8, bits: usize) -> u8 {
     digits.get(value ^ bits).copied().unwrap_or(b'0')
 }
 
-/// A trace is served whatever bit of the header in one of its lines is turned over.
-fn bears_flips(rt: &impl Abort, alloc: Global, lines: &[&str], line: usize) -> Result<(), Fail> {
-    let trace = text_of(alloc, lines)?;
-    let start = start_of(&trace, line).saturating_add(2);
-    for digit in 0..64usize {
-        for bits in [1, 2, 4, 8usize] {
+/// A trace is served whatever bit of the header of a write or of its data is turned over.
+#[test]
+fn each_bit_is_turned_over(rt: HostRuntime) -> Result<(), Fail> {
+    let trace = text_of(rt.alloc(), &ONE_BLOCK)?;
+    for line in [0, 2usize] {
+        let start = start_of(&trace, line).saturating_add(2);
+        for turn in 0..256usize {
+            let (digit, bits) = (turn / 4, 1 << (turn % 4));
             let mut flipped = trace.clone()?;
             if let Some(place) = flipped.get_mut(start.saturating_add(digit)) {
                 *place = flip(*place, bits);
             }
-            let ran = replay(alloc, &flipped, &[])?;
+            let ran = replay(rt.alloc(), &flipped, &[])?;
             let verdict = ran.verdict;
-            assert!(rt; ran.is_served(), "digit {digit}, bits {bits}: {verdict:?}");
+            assert!(rt;
+                ran.is_served(),
+                "line {line}, digit {digit}, bits {bits}: {verdict:?}"
+            );
         }
     }
     Ok(())
-}
-
-#[test]
-fn each_bit_of_a_write_is_turned_over(rt: HostRuntime) -> Result<(), Fail> {
-    bears_flips(&rt, rt.alloc(), &ONE_BLOCK, 0)
-}
-
-#[test]
-fn each_bit_of_its_data_is_turned_over(rt: HostRuntime) -> Result<(), Fail> {
-    bears_flips(&rt, rt.alloc(), &ONE_BLOCK, 2)
 }
 
 /// Whether a run may end so over a trace that was cut: at its end, or at its last line, which has no end.
@@ -271,14 +249,14 @@ fn each_call_of_the_chip_fails(rt: HostRuntime) -> Result<(), Fail> {
     Ok(())
 }
 
-/// Whether a trace is served, and prints so many lines where all of it is.
+/// Whether a trace is served, and prints so many lines.
 fn prints(alloc: Global, trace: &[u8], lines: usize) -> Result<bool, Fail> {
     let ran = replay(alloc, trace, &[])?;
-    Ok(ran.is_served() && (ran.status != Status::Done || ran.lines() == lines))
+    Ok(ran.is_served() && ran.lines() == lines)
 }
 
 #[test]
-fn tasks_that_have_no_room_are_refused(rt: HostRuntime) -> Result<(), Fail> {
+fn tasks_have_a_tag_and_room(rt: HostRuntime) -> Result<(), Fail> {
     let mut trace = Vec::new(rt.alloc());
     for tag in 0..33u8 {
         let words = format!(in rt.alloc(); "U 014000{tag:02x} z z 00001000 28000000 z 01000000 z")?;
@@ -287,11 +265,6 @@ fn tasks_that_have_no_room_are_refused(rt: HostRuntime) -> Result<(), Fail> {
     push_lines(&mut trace, &["D"])?;
     // 33 commands, TASK SET FULL for the last, and a block and GOOD for each other.
     assert!(rt; prints(rt.alloc(), &trace, 98)?);
-    Ok(())
-}
-
-#[test]
-fn a_tag_names_one_task(rt: HostRuntime) -> Result<(), Fail> {
     let [write, drain, data, _, read, _] = ONE_BLOCK;
     let same = "U 01400002 z z 00001000 28000000 z 01000000 z";
     for (lines, printed) in [
@@ -304,28 +277,31 @@ fn a_tag_names_one_task(rt: HostRuntime) -> Result<(), Fail> {
     Ok(())
 }
 
+/// Data that aren't as a write of one block asked for them.
+const WRONG: [&str; 14] = [
+    // Another tag, and another unit.
+    "U 02000003 z 00001000 z 00001000 z z z block",
+    "U 02000102 z 00001000 z 00001000 z z z block",
+    // Other offsets.
+    "U 02000002 z 00001000 00000001 00001000 z z z block",
+    "U 02000002 z 00001000 00001000 00001000 z z z block",
+    "U 02000002 z 00001000 ffffffff 00001000 z z z block",
+    "U 02000002 z 00001000 fffff000 00001000 z z z block",
+    // Other counts.
+    "U 02000002 z 00001000 z z z z z block",
+    "U 02000002 z 00001000 z 00000fff z z z block",
+    "U 02000002 z 00001000 z 00001001 z z z block",
+    "U 02000002 z 00001000 z ffffffff z z z block",
+    // No bytes, a part, and more than was asked for.
+    "U 02000002 z z z z z z z",
+    "U 02000002 z 00000004 z 00000004 z z z a5a5a5a5",
+    "U 02000002 z 00002000 z 00002000 z z z block block",
+    "U 02000002 z 00001004 z 00001004 z z z block a5a5a5a5",
+];
+
 #[test]
 fn data_that_are_not_as_asked_do_no_harm(rt: HostRuntime) -> Result<(), Fail> {
-    for wrong in [
-        // Another tag, and another unit.
-        "U 02000003 z 00001000 z 00001000 z z z block",
-        "U 02000102 z 00001000 z 00001000 z z z block",
-        // Other offsets.
-        "U 02000002 z 00001000 00000001 00001000 z z z block",
-        "U 02000002 z 00001000 00001000 00001000 z z z block",
-        "U 02000002 z 00001000 ffffffff 00001000 z z z block",
-        "U 02000002 z 00001000 fffff000 00001000 z z z block",
-        // Other counts.
-        "U 02000002 z 00001000 z z z z z block",
-        "U 02000002 z 00001000 z 00000fff z z z block",
-        "U 02000002 z 00001000 z 00001001 z z z block",
-        "U 02000002 z 00001000 z ffffffff z z z block",
-        // No bytes, a part, and more than was asked for.
-        "U 02000002 z z z z z z z",
-        "U 02000002 z 00000004 z 00000004 z z z a5a5a5a5",
-        "U 02000002 z 00002000 z 00002000 z z z block block",
-        "U 02000002 z 00001004 z 00001004 z z z block a5a5a5a5",
-    ] {
+    for wrong in WRONG {
         for steps in ["D", "#"] {
             let [write, drain, data, _, read, _] = ONE_BLOCK;
             let mut trace = text_of(rt.alloc(), &[write, drain, wrong, steps, data, steps])?;
@@ -363,7 +339,7 @@ fn push_data(
 }
 
 #[test]
-fn data_come_in_pieces(rt: HostRuntime) -> Result<(), Fail> {
+fn data_come_in_pieces_and_bursts(rt: HostRuntime) -> Result<(), Fail> {
     let [write, drain, _, _, read, _] = TWO_BLOCKS;
     for (first, second) in [(4096, 4096), (1, 8191), (8191, 1), (4097, 4095), (2, 8190)] {
         for between in ["D", "#"] {
@@ -376,11 +352,6 @@ fn data_come_in_pieces(rt: HostRuntime) -> Result<(), Fail> {
             assert!(rt; prints(rt.alloc(), &trace, 10)?, "{first} bytes, {between}");
         }
     }
-    Ok(())
-}
-
-#[test]
-fn data_come_in_bursts(rt: HostRuntime) -> Result<(), Fail> {
     let write = "U 01200002 z z 00011000 2a000000 00030000 11000000 z";
     let read = "U 01400003 z z 00014000 28000000 z 14000000 z";
     let mut trace = text_of(rt.alloc(), &[write, "D"])?;

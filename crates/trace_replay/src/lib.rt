@@ -1,6 +1,7 @@
 //! The program: it replays a trace of UPIUs against a device, and prints the UPIUs of both sides.
 #![tactic(auto)]
 
+mod limits;
 mod output;
 mod program;
 mod replay;
@@ -8,6 +9,7 @@ mod show;
 mod status;
 mod words;
 
+pub use limits::{GeometryFault, Limit, NamedNumbers, each_refusal_is_told, geometry_fault};
 pub use program::run;
 pub use status::{Outcome, Status};
 pub use words::chip_of;
@@ -15,11 +17,7 @@ pub use words::chip_of;
 #[cfg(test)]
 mod hostile_tests;
 #[cfg(test)]
-mod layout_tests;
-#[cfg(test)]
 mod oracle;
-#[cfg(test)]
-mod queue_tests;
 #[cfg(test)]
 mod row_tests;
 #[cfg(test)]

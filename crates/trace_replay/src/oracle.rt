@@ -760,104 +760,124 @@ fn judge_lines(alloc: Global, lines: &[&str]) -> Result<Verdict, Fail> {
     judge(alloc, sizes, &text)
 }
 
-#[test]
-fn sound_transcripts_are_allowed(rt: HostRuntime) -> Result<(), Fail> {
-    for (lines, rests) in [
-        ([].as_slice(), true),
-        (&[WRITE], false),
-        (&[WRITE, ASKED], true),
-        (&[WRITE, ASKED, DATA], false),
-        (&[WRITE, ASKED, DATA, WRITTEN, READ, SHOWN, ENDED], true),
-        (&[READ_NEXT, ZEROS, ENDED], true),
-        (&[READ, WRITE, ZEROS, ENDED, ASKED, DATA, WRITTEN], true),
-        // The block of a write that failed is old or new, until it is read.
-        (
-            &[WRITE, ASKED, DATA, "! program", WRITE_FAILED, READ, SHOWN],
-            false,
-        ),
-        (
-            &[WRITE, ASKED, DATA, "! program", WRITE_FAILED, READ, ZEROS],
-            false,
-        ),
-        (&[READ, "! read", READ_FAILED], true),
-        (&[NOP, "< 20000008 z z z z z z z"], true),
-        // More is expected than is moved.
-        (
-            &[
-                "> 01400003 z z 00002000 28000000 z 01000000 z",
-                ZEROS,
-                "< 21200003 z z 00001000 z z z z",
-            ],
-            true,
-        ),
-        // TEST UNIT READY, READ CAPACITY(10), SYNCHRONIZE CACHE(10).
-        (
-            &[
-                "> 01000003 z z z z z z z",
-                ENDED,
-                "> 01400003 z z 00000008 25000000 z z z",
-                "< 22000003 z 00000008 z 00000008 z z z 00000013 00001000",
-                ENDED,
-                "> 01000003 z z z 35000000 00130000 01000000 z",
-                ENDED,
-            ],
-            true,
-        ),
-    ] {
-        let count = lines.len();
-        let found = judge_lines(rt.alloc(), lines)?;
-        assert_eq!(rt; found, Verdict::Sound { rests }, "of {count} lines");
-    }
-    Ok(())
-}
+/// Sound, where all is done that can be done without the host, and where something can go on.
+const RESTS: Verdict = Verdict::Sound { rests: true };
+
+const GOES_ON: Verdict = Verdict::Sound { rests: false };
+
+/// Transcripts, and what is found of each.
+const JUDGED: [(&[&str], Verdict); 36] = [
+    (&[], RESTS),
+    (&[WRITE], GOES_ON),
+    (&[WRITE, ASKED], RESTS),
+    (&[WRITE, ASKED, DATA], GOES_ON),
+    (&[WRITE, ASKED, DATA, WRITTEN, READ, SHOWN, ENDED], RESTS),
+    (&[READ_NEXT, ZEROS, ENDED], RESTS),
+    (&[READ, WRITE, ZEROS, ENDED, ASKED, DATA, WRITTEN], RESTS),
+    // The block of a write that failed is old or new, until it is read.
+    (
+        &[WRITE, ASKED, DATA, "! program", WRITE_FAILED, READ, SHOWN],
+        GOES_ON,
+    ),
+    (
+        &[WRITE, ASKED, DATA, "! program", WRITE_FAILED, READ, ZEROS],
+        GOES_ON,
+    ),
+    (&[READ, "! read", READ_FAILED], RESTS),
+    (&[NOP, "< 20000008 z z z z z z z"], RESTS),
+    // More is expected than is moved.
+    (
+        &[
+            "> 01400003 z z 00002000 28000000 z 01000000 z",
+            ZEROS,
+            "< 21200003 z z 00001000 z z z z",
+        ],
+        RESTS,
+    ),
+    // TEST UNIT READY, READ CAPACITY(10), SYNCHRONIZE CACHE(10).
+    (
+        &[
+            "> 01000003 z z z z z z z",
+            ENDED,
+            "> 01400003 z z 00000008 25000000 z z z",
+            "< 22000003 z 00000008 z 00000008 z z z 00000013 00001000",
+            ENDED,
+            "> 01000003 z z z 35000000 00130000 01000000 z",
+            ENDED,
+        ],
+        RESTS,
+    ),
+    // GOOD is left out, comes too early, or has another residual.
+    (
+        &[WRITE, ASKED, DATA, READ, SHOWN],
+        Verdict::Bad(5, Why::Sent),
+    ),
+    (&[READ, ENDED], Verdict::Bad(2, Why::Sent)),
+    (
+        &[READ, ZEROS, "< 21200003 z z 00001000 z z z z"],
+        Verdict::Bad(3, Why::Sent),
+    ),
+    // A block that was never written, that of another place, and one that is stale.
+    (&[READ, SHOWN], Verdict::Bad(2, Why::Block)),
+    (
+        &[WRITE, ASKED, DATA, WRITTEN, READ_NEXT, SHOWN],
+        Verdict::Bad(6, Why::Block),
+    ),
+    (
+        &[WRITE, ASKED, DATA, WRITTEN, READ, ZEROS],
+        Verdict::Bad(6, Why::Block),
+    ),
+    // Sense without its cause.
+    (&[READ, READ_FAILED], Verdict::Bad(2, Why::Cause)),
+    (
+        &[READ, "! program", READ_FAILED],
+        Verdict::Bad(3, Why::Cause),
+    ),
+    (
+        &[READ, "! read", WRITE, READ_FAILED],
+        Verdict::Bad(4, Why::Cause),
+    ),
+    (&[READ, "! read", CHIP_FAILED], Verdict::Bad(3, Why::Cause)),
+    (
+        &[WRITE, ASKED, DATA, WRITE_FAILED],
+        Verdict::Bad(4, Why::Cause),
+    ),
+    (
+        &[WRITE, ASKED, DATA, NO_PAGE_LEFT],
+        Verdict::Bad(4, Why::Cause),
+    ),
+    // A reply that is missing, at the end too, or another.
+    (&[NOP, READ], Verdict::Bad(2, Why::Reply)),
+    (&[NOP, "! read"], Verdict::Bad(2, Why::Reply)),
+    (&[NOP], Verdict::Bad(2, Why::Reply)),
+    (
+        &[NOP, "< 20000009 z z z z z z z"],
+        Verdict::Bad(2, Why::Reply),
+    ),
+    (
+        &["> z", "< 3f000000 00000100 z 02000000 z z z z"],
+        Verdict::Bad(2, Why::Reply),
+    ),
+    // Data are asked for twice, or too many.
+    (&[WRITE, ASKED, ASKED], Verdict::Bad(3, Why::Sent)),
+    (
+        &[WRITE, "< 31000002 z z z 00002000 z z z"],
+        Verdict::Bad(2, Why::Sent),
+    ),
+    (&[ENDED], Verdict::Bad(1, Why::Sent)),
+    // No lines of a transcript.
+    (&["E line 1"], Verdict::Bad(1, Why::Line)),
+    (&["> 0"], Verdict::Bad(1, Why::Line)),
+    (&["> 0F"], Verdict::Bad(1, Why::Line)),
+];
 
 #[test]
-fn other_transcripts_are_refused(rt: HostRuntime) -> Result<(), Fail> {
-    for (lines, line, why) in [
-        // GOOD is left out, comes too early, or has another residual.
-        ([WRITE, ASKED, DATA, READ, SHOWN].as_slice(), 5, Why::Sent),
-        (&[READ, ENDED], 2, Why::Sent),
-        (
-            &[READ, ZEROS, "< 21200003 z z 00001000 z z z z"],
-            3,
-            Why::Sent,
-        ),
-        // A block that was never written, that of another place, and one that is stale.
-        (&[READ, SHOWN], 2, Why::Block),
-        (
-            &[WRITE, ASKED, DATA, WRITTEN, READ_NEXT, SHOWN],
-            6,
-            Why::Block,
-        ),
-        (&[WRITE, ASKED, DATA, WRITTEN, READ, ZEROS], 6, Why::Block),
-        // Sense without its cause.
-        (&[READ, READ_FAILED], 2, Why::Cause),
-        (&[READ, "! program", READ_FAILED], 3, Why::Cause),
-        (&[READ, "! read", WRITE, READ_FAILED], 4, Why::Cause),
-        (&[READ, "! read", CHIP_FAILED], 3, Why::Cause),
-        (&[WRITE, ASKED, DATA, WRITE_FAILED], 4, Why::Cause),
-        (&[WRITE, ASKED, DATA, NO_PAGE_LEFT], 4, Why::Cause),
-        // A reply that is missing, at the end too, or another.
-        (&[NOP, READ], 2, Why::Reply),
-        (&[NOP, "! read"], 2, Why::Reply),
-        (&[NOP], 2, Why::Reply),
-        (&[NOP, "< 20000009 z z z z z z z"], 2, Why::Reply),
-        (
-            &["> z", "< 3f000000 00000100 z 02000000 z z z z"],
-            2,
-            Why::Reply,
-        ),
-        // Data are asked for twice, or too many.
-        (&[WRITE, ASKED, ASKED], 3, Why::Sent),
-        (&[WRITE, "< 31000002 z z z 00002000 z z z"], 2, Why::Sent),
-        (&[ENDED], 1, Why::Sent),
-        // No lines of a transcript.
-        (&["E line 1"], 1, Why::Line),
-        (&["> 0"], 1, Why::Line),
-        (&["> 0F"], 1, Why::Line),
-    ] {
+fn transcripts_are_judged(rt: HostRuntime) -> Result<(), Fail> {
+    let mut row = 0usize;
+    for (lines, verdict) in JUDGED {
         let found = judge_lines(rt.alloc(), lines)?;
-        assert_eq!(rt; found, Verdict::Bad(line, why));
+        assert_eq!(rt; found, verdict, "row {row}");
+        row = row.saturating_add(1);
     }
     Ok(())
 }

@@ -1,12 +1,11 @@
 ghost use Rattle.std.specs.Prelude.{◌≡◌, ◌+◌, ◌*◌, ◌≤◌, ◌++◌, ◌↔◌, [], length, IfOk, IsTrue, is_some};
 ghost use Rattle.hpb_outside.specs.Faults.{HasCause};
+ghost use Rattle.hex.specs.Hex.{IsBytes};
 ghost use Rattle.flat_unit.specs.Print.{line_of};
 ghost use Rattle.trace_text.specs.Written.{upiu_line};
 ghost use Rattle.trace_text.specs.Shown.{shown_line};
 ghost use Rattle.trace_replay.specs.Showing.{shown_text};
-ghost use Rattle.trace_text.specs.declared.window.TheConstants.{LINE_BYTES};
 ghost use Rattle.trace_replay.specs.Writes.{Writes};
-ghost use Rattle.trace_replay.specs.declared.output.TheConstants.{OUTPUT_BYTES, LINE_ROOM};
 
 use flat_unit::Event;
 use hpb_outside::{Failed, NoMemory, Sink};
@@ -29,13 +28,12 @@ pub(crate) struct Output {
 
 impl Model for Output {
     ghost use Rattle.std.specs.Prelude.{◌≡◌, ◌≤◌, ℕ, List, length, take};
-    ghost use Rattle.trace_replay.specs.declared.output.TheConstants.{OUTPUT_BYTES};
 
     ghost Value = { List ℕ };
 
     ghost view = { λ o. take o.len o.text.items };
 
-    ghost invariant = { λ o. (o.len ≤ OUTPUT_BYTES) × (length o.text.items ≡ OUTPUT_BYTES) };
+    ghost invariant = { λ o. (o.len ≤ 262144) × (length o.text.items ≡ 262144) };
 }
 
 impl Output {
@@ -49,8 +47,9 @@ impl Output {
 
     /// Adds the line of a UPIU behind a mark.
     pub(crate) fn push_upiu(&mut self, mark: u8, bytes: &[u8])
-        requires { length self.old + (2 * length bytes.now + 3) ≤ OUTPUT_BYTES }
-        ensures { self.new ≡ self.old ++ upiu_line mark bytes.now }
+        requires { length self.old + (2 * length bytes.now + 3) ≤ 262144 }
+        ensures text { self.new ≡ self.old ++ upiu_line mark bytes.now }
+        ensures bytes { IsBytes bytes.now }
     {
         let len = put_upiu(mark, bytes, &mut self.text[self.len..]);
         self.len += len;
@@ -58,7 +57,7 @@ impl Output {
 
     /// Adds the line of an event.
     pub(crate) fn push_event(&mut self, event: &Event)
-        requires { length self.old + length (line_of event.now) ≤ OUTPUT_BYTES }
+        requires { length self.old + length (line_of event.now) ≤ 262144 }
         ensures { self.new ≡ self.old ++ line_of event.now }
     {
         let len = put_event(event, &mut self.text[self.len..]);
@@ -67,7 +66,7 @@ impl Output {
 
     /// Adds a text.
     pub(crate) fn push_text(&mut self, text: &[u8])
-        requires { length self.old + length text.now ≤ OUTPUT_BYTES }
+        requires { length self.old + length text.now ≤ 262144 }
         ensures { self.new ≡ self.old ++ text.now }
     {
         let end = self.len + text.len();
@@ -77,9 +76,9 @@ impl Output {
 
     /// Adds what is shown of a line, whose UPIU is written to the room; or nothing, where its UPIU isn't hex.
     pub(crate) fn push_shown(&mut self, line: &[u8], room: &mut [u8]) -> bool
-        requires line { length line.now ≤ LINE_BYTES }
+        requires line { length line.now ≤ 131200 }
         requires room { 65600 ≤ length room.old }
-        requires out { length self.old + LINE_ROOM ≤ OUTPUT_BYTES }
+        requires out { length self.old + 139520 ≤ 262144 }
         ensures known { result ≡ is_some (shown_line line.now) }
         ensures shown { self.new ≡ self.old ++ shown_text line.now }
     {
@@ -94,7 +93,7 @@ impl Output {
 
     /// Whether there is room for the lines of one call.
     pub(crate) fn has_room(&self) -> bool
-        ensures { IsTrue result ↔ (length self.now + LINE_ROOM ≤ OUTPUT_BYTES) }
+        ensures { IsTrue result ↔ (length self.now + 139520 ≤ 262144) }
     {
         self.len <= OUTPUT_BYTES - LINE_ROOM
     }

@@ -1,12 +1,14 @@
-ghost use Rattle.std.specs.Prelude.{◌≡◌, ◌≤◌, ◌⊎◌, ℕ, List, [], None, map, string_bytes};
-ghost use Rattle.hpb_outside.specs.Faults.{HasCause, Rose};
+ghost use Rattle.std.specs.Prelude.{IsTrue, false, ◌≡◌, ◌≤◌, ◌⊎◌, ℕ, List, [], None, map, string_bytes};
 ghost use Rattle.flash_pages.specs.Chip.{erased_chip};
-ghost use Rattle.std.specs.Io.KnownBytes.{Appends, prepend_known};
+ghost use Rattle.std.specs.Io.KnownBytes.{Appends, IsAtEnd, prepend_known};
 ghost use Rattle.hpb_device.specs.Standing.{sizes_of};
-ghost use Rattle.trace_replay.specs.Run.{EndsLong, Finishes, IsLeft, ProgramIs, RunIs, bad_line_text};
+ghost use Rattle.trace_replay.specs.Run.{CountsFault, EndsLong, Finishes, IsLeft, IsPlanned, ProgramIs, RunIs, SinkEnds, SourceEnds, bad_line_text};
 ghost use Rattle.trace_replay.specs.Showing.{ShowProgramIs};
+ghost use Rattle.trace_replay.specs.ByText.{is_shown_line, is_trace_line};
+ghost use Rattle.trace_replay.specs.Headline.{DrainsAll, EndsByText, Tells};
+ghost use Rattle.flat_unit.specs.Reads.{ReadsAllowed, ReadsEndGood};
 ghost use Rattle.trace_replay.specs.Options.{cut_shape};
-ghost use Rattle.trace_replay.specs.Transcript.{IsTranscript};
+ghost use Rattle.trace_replay.specs.Transcript.{IsTranscript, sizes_on, zero_unit};
 ghost use Rattle.trace_replay.specs.Writes.{AppendsFront};
 ghost use Rattle.trace_replay.specs.Words.{IsReplay, IsShow, named_chip, named_unit};
 
@@ -42,16 +44,59 @@ pub fn run<S: Source, K: Sink, F: Flash>(
         (λ p. IsTranscript (named_unit (map string_bytes words.now)) (F.geometry flash)
         (F.faults flash) (F.faults result.flash) (F.pages result.flash) p.events)
         ((source.new ≡ source.old) × (F.pages result.flash ≡ F.pages flash))
-        (S.left source.old) (S.left source.new) (K.written sink.old) (K.written sink.new)
-        (Rose (S.faults source.old) (S.faults source.new)) (Rose (K.faults sink.old) (K.faults sink.new)) LINES result.status }
+        (S.left source.old) (S.left source.new) (K.written sink.old) (K.written sink.new) 1000000 result.status }
     // What is shown of each line, and why the run ended.
     ensures show { IsShow (map string_bytes words.now) → ShowProgramIs
-        (S.left source.old) (S.left source.new) (K.written sink.old) (K.written sink.new)
-        (Rose (S.faults source.old) (S.faults source.new)) (Rose (K.faults sink.old) (K.faults sink.new)) LINES result.status }
+        (S.left source.old) (S.left source.new) (K.written sink.old) (K.written sink.new) 1000000 result.status }
     ensures untouched { IsShow (map string_bytes words.now) → result.flash ≡ flash }
     ensures geometry { F.geometry result.flash ≡ F.geometry flash }
-    ensures source_later { S.faults source.old ≤ S.faults source.new }
-    ensures sink_later { K.faults sink.old ≤ K.faults sink.new }
+    ensures source_faults { SourceEnds (S.faults source.old) (S.faults source.new) result.status }
+    ensures sink_faults { SinkEnds (K.faults sink.old) (K.faults sink.new) result.status }
+    // The headline: each block that a read carries was allowed just before it, and each RESPONSE that ends a read is GOOD
+    // or stands directly behind a read of the chip that failed.
+    ensures reads_allowed { ¬ IsShow (map string_bytes words.now)
+        → IsPlanned (map string_bytes words.now) (F.geometry flash)
+        → Tells result.status (K.written sink.old) (K.written sink.new)
+        (ReadsAllowed (sizes_on (named_unit (map string_bytes words.now)) (F.geometry flash)) (zero_unit (named_unit (map string_bytes words.now)))) }
+    ensures reads_good { ¬ IsShow (map string_bytes words.now)
+        → IsPlanned (map string_bytes words.now) (F.geometry flash)
+        → Tells result.status (K.written sink.old) (K.written sink.new)
+        (ReadsEndGood (sizes_on (named_unit (map string_bytes words.now)) (F.geometry flash))) }
+    // After a `D` line no read is kept, but behind a task that waits for data.
+    ensures drained { ¬ IsShow (map string_bytes words.now) → result.status ≡ Status.Done
+        → DrainsAll (sizes_on (named_unit (map string_bytes words.now)) (F.geometry flash))
+        (S.left source.old) (S.left source.new) (K.written sink.old) (K.written sink.new) }
+    // Where no call of the source or the sink failed, the status is a function of the text alone.
+    ensures by_text { ¬ IsShow (map string_bytes words.now) → IsPlanned (map string_bytes words.now) (F.geometry flash)
+        → EndsByText is_trace_line (S.left source.old) (S.faults source.old) (S.faults source.new) (K.faults sink.old) (K.faults sink.new) result.status }
+    ensures shown_by_text { IsShow (map string_bytes words.now)
+        → EndsByText is_shown_line (S.left source.old) (S.faults source.old) (S.faults source.new) (K.faults sink.old) (K.faults sink.new) result.status }
+{
+    run_command(alloc, words, source, sink, flash)
+}
+
+/// Runs the command that the words name.
+fn run_command<S: Source, K: Sink, F: Flash>(
+    alloc: Global,
+    words: &[String],
+    source: &mut S,
+    sink: &mut K,
+    flash: F,
+) -> Outcome<F>
+    requires { F.pages flash ≡ erased_chip (F.geometry flash) }
+    // What was read and written, why the run ended, and what is known of the events and of the chip that is handed back.
+    ensures run { ¬ IsShow (map string_bytes words.now) → ProgramIs (map string_bytes words.now) (F.geometry flash)
+        (λ p. IsTranscript (named_unit (map string_bytes words.now)) (F.geometry flash)
+        (F.faults flash) (F.faults result.flash) (F.pages result.flash) p.events)
+        ((source.new ≡ source.old) × (F.pages result.flash ≡ F.pages flash))
+        (S.left source.old) (S.left source.new) (K.written sink.old) (K.written sink.new) 1000000 result.status }
+    // What is shown of each line, and why the run ended.
+    ensures show { IsShow (map string_bytes words.now) → ShowProgramIs
+        (S.left source.old) (S.left source.new) (K.written sink.old) (K.written sink.new) 1000000 result.status }
+    ensures untouched { IsShow (map string_bytes words.now) → result.flash ≡ flash }
+    ensures geometry { F.geometry result.flash ≡ F.geometry flash }
+    ensures source_faults { SourceEnds (S.faults source.old) (S.faults source.new) result.status }
+    ensures sink_faults { SinkEnds (K.faults sink.old) (K.faults sink.new) result.status }
 {
     match command_of(words) {
         Some(Command::Replay(named)) => run_replay(alloc, named, source, sink, flash),
@@ -72,15 +117,15 @@ fn run_replay<S: Source, K: Sink, F: Flash>(
     flash: F,
 ) -> Outcome<F>
     requires { F.pages flash ≡ erased_chip (F.geometry flash) }
-    ensures run { (words : List (List ℕ)) → IsReplay words → named.chip ≡ named_chip words → named.unit ≡ cut_shape (named_unit words)
+    ensures run { (words : List (List ℕ)) → IsReplay words → named.chip ≡ named_chip words
+        → named.unit ≡ cut_shape (named_unit words)
         → ProgramIs words (F.geometry flash)
         (λ p. IsTranscript (named_unit words) (F.geometry flash) (F.faults flash) (F.faults result.flash) (F.pages result.flash) p.events)
         ((source.new ≡ source.old) × (F.pages result.flash ≡ F.pages flash))
-        (S.left source.old) (S.left source.new) (K.written sink.old) (K.written sink.new)
-        (Rose (S.faults source.old) (S.faults source.new)) (Rose (K.faults sink.old) (K.faults sink.new)) LINES result.status }
+        (S.left source.old) (S.left source.new) (K.written sink.old) (K.written sink.new) 1000000 result.status }
     ensures geometry { F.geometry result.flash ≡ F.geometry flash }
-    ensures source_later { S.faults source.old ≤ S.faults source.new }
-    ensures sink_later { K.faults sink.old ≤ K.faults sink.new }
+    ensures source_faults { SourceEnds (S.faults source.old) (S.faults source.new) result.status }
+    ensures sink_faults { SinkEnds (K.faults sink.old) (K.faults sink.new) result.status }
 {
     if flash.geometry() != named.chip {
         return refused(sink, Status::Geometry, b"E geometry\n", flash);
@@ -113,10 +158,9 @@ fn run_replay<S: Source, K: Sink, F: Flash>(
 /// Shows the lines of a text.
 fn run_show<S: Source, K: Sink>(alloc: Global, source: &mut S, sink: &mut K) -> Status
     ensures show { ShowProgramIs
-        (S.left source.old) (S.left source.new) (K.written sink.old) (K.written sink.new)
-        (Rose (S.faults source.old) (S.faults source.new)) (Rose (K.faults sink.old) (K.faults sink.new)) LINES result }
-    ensures source_later { S.faults source.old ≤ S.faults source.new }
-    ensures sink_later { K.faults sink.old ≤ K.faults sink.new }
+        (S.left source.old) (S.left source.new) (K.written sink.old) (K.written sink.new) 1000000 result }
+    ensures source_faults { SourceEnds (S.faults source.old) (S.faults source.new) result }
+    ensures sink_faults { SinkEnds (K.faults sink.old) (K.faults sink.new) result }
 {
     let Ok(mut buffers) = Buffers::new(alloc) else {
         return Status::Memory;
@@ -126,9 +170,10 @@ fn run_show<S: Source, K: Sink>(alloc: Global, source: &mut S, sink: &mut K) -> 
 
 /// The outcome where nothing is replayed.
 fn refused<K: Sink, F: Flash>(sink: &mut K, status: Status, text: &[u8], flash: F) -> Outcome<F>
-    ensures refused { ((result.status ≡ status) × Appends (K.written sink.old) (K.written sink.new) text.now)
-        ⊎ ((result.status ≡ Status.WriteFault) × AppendsFront (K.written sink.old) (K.written sink.new) text.now × Rose (K.faults sink.old) (K.faults sink.new)) }
-    ensures later { K.faults sink.old ≤ K.faults sink.new }
+    ensures refused { ((result.status ≡ status) × Appends (K.written sink.old) (K.written sink.new) text.now
+        × (K.faults sink.new ≡ K.faults sink.old))
+        ⊎ ((result.status ≡ Status.WriteFault) × AppendsFront (K.written sink.old) (K.written sink.new) text.now
+        × CountsFault (K.faults sink.old) (K.faults sink.new)) }
     ensures flash { result.flash ≡ flash }
 {
     match write_all(sink, text) {
@@ -148,20 +193,22 @@ fn replay<S: Source, K: Sink, F: Flash>(
     sink: &mut K,
 ) -> Status
     requires begun { device.old.tasks ≡ [] }
+    requires uncounted { device.old.counts.erased ≡ 0 }
+    requires erased { device.old.store.pages ≡ erased_chip device.old.store.geometry }
     requires some_page { 1 ≤ device.old.store.geometry.pages }
+    requires unread { buffers.old.reader ≡ record { held = []; ended = false } }
     requires fresh { buffers.old.output ≡ [] }
     ensures run { RunIs (sizes_of device.old) (IsLeft device.old device.new)
-        (prepend_known buffers.old.reader (S.left source.old)) (prepend_known buffers.new.reader (S.left source.new))
-        (K.written sink.old) (K.written sink.new)
-        (Rose (S.faults source.old) (S.faults source.new)) (Rose (K.faults sink.old) (K.faults sink.new)) LINES result }
-    ensures source_later { S.faults source.old ≤ S.faults source.new }
-    ensures sink_later { K.faults sink.old ≤ K.faults sink.new }
+        (prepend_known buffers.old.reader.held (S.left source.old)) (S.left source.new)
+        (K.written sink.old) (K.written sink.new) 1000000 result }
+    ensures source_faults { SourceEnds (S.faults source.old) (S.faults source.new) result }
+    ensures sink_faults { SinkEnds (K.faults sink.old) (K.faults sink.new) result }
 {
     for number in 0..LINES {
         match take_turn(device, buffers, source, sink) {
             Turn::Served => {}
             Turn::Ended => return finish(&mut buffers.output, sink, Status::Done),
-            Turn::Unread => return finish(&mut buffers.output, sink, Status::ReadFault),
+            Turn::Unread => return Status::ReadFault,
             Turn::Unwritten => return Status::WriteFault,
             Turn::Bad => return refuse_line(&mut buffers.output, sink, number + 1),
         }
@@ -171,8 +218,7 @@ fn replay<S: Source, K: Sink, F: Flash>(
 
 /// Writes what was gathered, and ends with this status.
 pub(crate) fn finish<K: Sink>(output: &mut Output, sink: &mut K, status: Status) -> Status
-    ensures ends { Finishes (K.written sink.old) (K.written sink.new) output.old [] (Rose (K.faults sink.old) (K.faults sink.new)) status result }
-    ensures later { K.faults sink.old ≤ K.faults sink.new }
+    ensures ends { Finishes (K.written sink.old) (K.written sink.new) output.old [] (K.faults sink.old) (K.faults sink.new) status result }
 {
     match output.flush(sink) {
         Ok(()) => status,
@@ -182,9 +228,8 @@ pub(crate) fn finish<K: Sink>(output: &mut Output, sink: &mut K, status: Status)
 
 /// Ends at a line that the trace can't have.
 pub(crate) fn refuse_line<K: Sink>(output: &mut Output, sink: &mut K, number: u32) -> Status
-    ensures ends { Finishes (K.written sink.old) (K.written sink.new) output.old (bad_line_text number) (Rose (K.faults sink.old) (K.faults sink.new))
+    ensures ends { Finishes (K.written sink.old) (K.written sink.new) output.old (bad_line_text number) (K.faults sink.old) (K.faults sink.new)
         (Status.BadLine number) result }
-    ensures later { K.faults sink.old ≤ K.faults sink.new }
 {
     if make_room(output, sink).is_err() {
         return Status::WriteFault;
@@ -202,11 +247,11 @@ pub(crate) fn end_long<S: Source, K: Sink>(
     source: &mut S,
     sink: &mut K,
 ) -> Status
+    requires { IsTrue buffers.old.reader.ended → IsAtEnd (S.left source.old) }
     ensures ends { EndsLong (K.written sink.old) (K.written sink.new) buffers.old.output
-        (prepend_known buffers.old.reader (S.left source.old)) (prepend_known buffers.new.reader (S.left source.new))
-        (Rose (S.faults source.old) (S.faults source.new)) (Rose (K.faults sink.old) (K.faults sink.new)) result }
-    ensures source_later { S.faults source.old ≤ S.faults source.new }
-    ensures sink_later { K.faults sink.old ≤ K.faults sink.new }
+        (prepend_known buffers.old.reader.held (S.left source.old)) (S.left source.new) result }
+    ensures source_faults { SourceEnds (S.faults source.old) (S.faults source.new) result }
+    ensures sink_faults { SinkEnds (K.faults sink.old) (K.faults sink.new) result }
 {
     if buffers.output.flush(sink).is_err() {
         return Status::WriteFault;

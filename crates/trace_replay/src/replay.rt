@@ -1,15 +1,16 @@
-ghost use Rattle.std.specs.Prelude.{◌≡◌, ◌≤◌, ◌+◌, ◌++◌, length, flat_map, [], None, IfOk, OnOk};
+ghost use Rattle.std.specs.Prelude.{IsTrue, false, ◌≡◌, ◌≤◌, ◌⊎◌, ◌+◌, ◌++◌, length, flat_map, [], None, IfOk, OnOk};
+ghost use Rattle.hex.specs.Hex.{IsBytes};
 ghost use Rattle.flat_unit.specs.Print.{line_of};
 ghost use Rattle.flat_unit.specs.Replays.{events_of};
 ghost use Rattle.flat_unit.specs.Trace.{Upiu, Steps, Drain};
 ghost use Rattle.hpb_device.specs.Standing.{group_of};
 ghost use Rattle.trace_text.specs.Grammar.{line_said, room_taken};
 ghost use Rattle.trace_replay.specs.Moments.{Serves, TurnServes};
-ghost use Rattle.std.specs.Io.KnownBytes.{prepend_known};
-ghost use Rattle.trace_replay.specs.Run.{TurnIs};
-ghost use Rattle.trace_replay.specs.Writes.{KeepsText};
-ghost use Rattle.hpb_outside.specs.Faults.{HasCause, Rose};
-ghost use Rattle.trace_replay.specs.declared.output.TheConstants.{OUTPUT_BYTES, LINE_ROOM};
+ghost use Rattle.std.specs.Io.KnownBytes.{IsAtEnd, prepend_known};
+ghost use Rattle.trace_replay.specs.Run.{SinkFaults, SourceFaults, TurnIs};
+ghost use Rattle.trace_replay.specs.Writes.{Grows, KeepsText, WritesAll};
+ghost use Rattle.hpb_outside.specs.Faults.{HasCause};
+ghost use Rattle.trace_text.specs.Lines.{HoldsLine, IsWithinLine};
 
 use crate::output::Output;
 use flash_pages::Flash;
@@ -36,7 +37,7 @@ pub(crate) struct Buffers {
 impl Buffers {
     /// Empty buffers.
     pub(crate) fn new(alloc: Global) -> Result<Buffers, NoMemory>
-        ensures reader { IfOk result (λ buffers. buffers.reader ≡ []) }
+        ensures reader { IfOk result (λ buffers. buffers.reader ≡ record { held = []; ended = false }) }
         ensures output { IfOk result (λ buffers. buffers.output ≡ []) }
     {
         let reader = LineReader::new(alloc)?;
@@ -68,7 +69,8 @@ pub(crate) enum Turn {
 
 /// Writes what was gathered, where there is no room for the lines of one more call.
 pub(crate) fn make_room<K: Sink>(output: &mut Output, sink: &mut K) -> Result<(), Failed>
-    ensures room { OnOk result (length output.new + LINE_ROOM ≤ OUTPUT_BYTES) }
+    ensures room { OnOk result (length output.new + 139520 ≤ 262144) }
+    ensures kept { (output.new ≡ output.old) ⊎ (output.new ≡ []) }
     ensures text { KeepsText (K.written sink.old) (K.written sink.new) output.old output.new result }
     ensures cause { HasCause (K.faults sink.old) (K.faults sink.new) result }
 {
@@ -80,9 +82,10 @@ pub(crate) fn make_room<K: Sink>(output: &mut Output, sink: &mut K) -> Result<()
 
 /// Adds the lines of a step.
 fn push_step(stepped: Stepped, upiu: &UpiuBuf, output: &mut Output)
-    requires room { length output.old + LINE_ROOM ≤ OUTPUT_BYTES }
+    requires room { length output.old + 139520 ≤ 262144 }
     requires still { stepped.moved ≡ None }
-    ensures { output.new ≡ output.old ++ flat_map line_of (events_of (group_of stepped upiu.now)) }
+    ensures text { output.new ≡ output.old ++ flat_map line_of (events_of (group_of stepped upiu.now)) }
+    ensures bytes { IsTrue stepped.sent → IsBytes upiu.now × (length upiu.now ≤ 4128) }
 {
     if let Some(op) = stepped.failed {
         output.push_event(&Event::Failed(op));
@@ -100,6 +103,7 @@ fn drain<K: Sink, F: Flash>(
     sink: &mut K,
 ) -> Result<(), Failed>
     ensures serves { Serves Drain device.old device.new (K.written sink.old) (K.written sink.new) output.old output.new result }
+    ensures grows { Grows (K.written sink.old) (K.written sink.new) }
     ensures cause { HasCause (K.faults sink.old) (K.faults sink.new) result }
 {
     'steps: while let Waits::Step = device.waits() {
@@ -119,6 +123,7 @@ fn make_steps<K: Sink, F: Flash>(
     sink: &mut K,
 ) -> Result<(), Failed>
     ensures serves { Serves (Steps count) device.old device.new (K.written sink.old) (K.written sink.new) output.old output.new result }
+    ensures grows { Grows (K.written sink.old) (K.written sink.new) }
     ensures cause { HasCause (K.faults sink.old) (K.faults sink.new) result }
 {
     for _step in 0..count {
@@ -141,8 +146,8 @@ fn receive_line<K: Sink, F: Flash>(
 ) -> Turn
     requires { length bytes.now ≤ 65568 }
     ensures turn { TurnServes (Upiu bytes.now) device.old device.new (K.written sink.old) (K.written sink.new) output.old output.new result }
-    ensures later { K.faults sink.old ≤ K.faults sink.new }
-    ensures unwritten { result ≡ Turn.Unwritten → Rose (K.faults sink.old) (K.faults sink.new) }
+    ensures grows { Grows (K.written sink.old) (K.written sink.new) }
+    ensures faults { SinkFaults (K.faults sink.old) (K.faults sink.new) result }
     ensures read { ¬ (result ≡ Turn.Unread) }
 {
     if make_room(output, sink).is_err() {
@@ -166,8 +171,8 @@ fn serve<K: Sink, F: Flash>(
     requires { room_taken line ≤ 65568 }
     ensures turn { TurnServes (line_said buffers.old.room.items line) device.old device.new (K.written sink.old) (K.written sink.new) buffers.old.output buffers.new.output result }
     ensures reader { buffers.new.reader ≡ buffers.old.reader }
-    ensures later { K.faults sink.old ≤ K.faults sink.new }
-    ensures unwritten { result ≡ Turn.Unwritten → Rose (K.faults sink.old) (K.faults sink.new) }
+    ensures grows { Grows (K.written sink.old) (K.written sink.new) }
+    ensures faults { SinkFaults (K.faults sink.old) (K.faults sink.new) result }
     ensures read { ¬ (result ≡ Turn.Unread) }
 {
     let Buffers {
@@ -198,6 +203,7 @@ pub(crate) fn write_before_read<K: Sink>(
     sink: &mut K,
 ) -> Result<(), Failed>
     ensures text { KeepsText (K.written sink.old) (K.written sink.new) output.old output.new result }
+    ensures all { OnOk result (HoldsLine reader.now.held ⊎ (output.new ≡ [])) }
     ensures cause { HasCause (K.faults sink.old) (K.faults sink.new) result }
 {
     if reader.holds_line() {
@@ -213,13 +219,17 @@ pub(crate) fn take_turn<S: Source, K: Sink, F: Flash>(
     source: &mut S,
     sink: &mut K,
 ) -> Turn
+    requires { IsTrue buffers.old.reader.ended → IsAtEnd (S.left source.old) }
     ensures turn { TurnIs device.old device.new
-        (prepend_known buffers.old.reader (S.left source.old)) (prepend_known buffers.new.reader (S.left source.new))
+        (prepend_known buffers.old.reader.held (S.left source.old)) (prepend_known buffers.new.reader.held (S.left source.new))
         (K.written sink.old) (K.written sink.new) buffers.old.output buffers.new.output result }
-    ensures source_later { S.faults source.old ≤ S.faults source.new }
-    ensures sink_later { K.faults sink.old ≤ K.faults sink.new }
-    ensures unread { result ≡ Turn.Unread → Rose (S.faults source.old) (S.faults source.new) }
-    ensures unwritten { result ≡ Turn.Unwritten → Rose (K.faults sink.old) (K.faults sink.new) }
+    ensures at_end { IsTrue buffers.new.reader.ended → IsAtEnd (S.left source.new) }
+    // The source is asked only once all that was gathered is written.
+    ensures asked { (source.new ≡ source.old) ⊎ WritesAll (K.written sink.old) (K.written sink.new) buffers.old.output }
+    ensures unread { result ≡ Turn.Unread → IsWithinLine buffers.new.reader.held
+        × (length buffers.new.reader.held ≤ 131200) }
+    ensures source_faults { SourceFaults (S.faults source.old) (S.faults source.new) result }
+    ensures sink_faults { SinkFaults (K.faults sink.old) (K.faults sink.new) result }
 {
     if write_before_read(&buffers.reader, &mut buffers.output, sink).is_err() {
         return Turn::Unwritten;

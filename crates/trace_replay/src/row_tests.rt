@@ -1,8 +1,192 @@
-//! Whole transcripts of a device with several tasks: writes of many blocks, residuals, refusals, failed calls.
-use crate::tests::{Outside, Script, is_printed};
+//! Whole transcripts of a device, byte for byte: tables of lines, each with what is printed for it.
+use crate::tests::{ASKED, GIVEN, Outside, READ_BACK, Script, is_printed};
 use std::alloc::Global;
 use std::process::Abort;
 use std::test::Fail;
+
+/// A block that was never written is read.
+const UNWRITTEN: [(&str, &str); 2] = [
+    ("U 01400001 z z 00001000 28000000 00050000 01000000 z", ""),
+    (
+        "D",
+        "< 22000001 z 00001000 z 00001000 z z z zeros / < 21000001 z z z z z z z",
+    ),
+];
+
+/// The data of a write, and no page is left.
+const NO_PAGE: [(&str, &str); 2] = [
+    ("U 02000002 z 00001000 z 00001000 z z z block", ""),
+    (
+        "D",
+        "< 21000002 00000102 00000014 z z z z z 00127000 07000000 000a0000 00002700 z",
+    ),
+];
+
+/// The data of a write, and the chip fails.
+const UNPROGRAMMED: [(&str, &str); 2] = [
+    ("U 02000002 z 00001000 z 00001000 z z z block", ""),
+    (
+        "D",
+        "! program / < 21000002 00000102 00000014 z z z z z 00127000 03000000 000a0000 00000c00 z",
+    ),
+];
+
+/// A block whose write failed is read.
+const STILL_UNWRITTEN: [(&str, &str); 2] = [
+    ("U 01400003 z z 00001000 28000000 z 01000000 z", ""),
+    (
+        "D",
+        "< 22000003 z 00001000 z 00001000 z z z zeros / < 21000003 z z z z z z z",
+    ),
+];
+
+/// A block that was written is read, and the chip fails.
+const UNREAD: [(&str, &str); 2] = [
+    ("U 01400003 z z 00001000 28000000 z 01000000 z", ""),
+    (
+        "D",
+        "! read / < 21200003 00000102 00000014 00001000 z z z z 00127000 03000000 000a0000 00001100 z",
+    ),
+];
+
+/// What is answered at once and changes nothing: REJECT by its reason, with LUN and tag of the host's bytes, and NOP OUT.
+const ANSWERED: [(&str, &str); 12] = [
+    (
+        "U z z z z z z z 000000",
+        "< 3f000000 00000100 z 01000000 z z z z",
+    ),
+    (
+        "U 41000000 z 01000000 z z z z z",
+        "< 3f000000 00000100 z 02000000 z z z z",
+    ),
+    (
+        "U 01000000 z 01000000 z z z z z",
+        "< 3f000000 00000100 z 03000000 z z z z",
+    ),
+    (
+        "U z z 00000001 z z z z z",
+        "< 3f000000 00000100 z 04000000 z z z z",
+    ),
+    (
+        "U 3e000000 z z z z z z z",
+        "< 3f000000 00000100 z 05000000 z z z z",
+    ),
+    (
+        "U 01000000 01000000 z z z z z z",
+        "< 3f000000 00000100 z 06000000 z z z z",
+    ),
+    (
+        "U 3e000207 z z z z z z z",
+        "< 3f000207 00000100 z 05000000 z z z z",
+    ),
+    (
+        "U 20000000 z z z z z z z",
+        "< 3f000000 00000100 z 07000000 z z z z",
+    ),
+    (
+        "U 02000000 z z z z z z z",
+        "< 3f000000 00000100 z 09000000 z z z z",
+    ),
+    (
+        "U 20000207 z z z z z z z",
+        "< 3f000207 00000100 z 07000000 z z z z",
+    ),
+    (
+        "U 02000308 z 00001000 z 00001000 z z z block",
+        "< 3f000308 00000100 z 09000000 z z z z",
+    ),
+    ("U 00000008 z z z z z z z", "< 20000008 z z z z z z z"),
+];
+
+/// A COMMAND that is refused.
+const CHECKED: [(&str, &str); 4] = [
+    // A block past the end, to be read and to be written.
+    (
+        "U 01400001 z z 00001000 28000000 00140000 01000000 z",
+        "< 21200001 00000102 00000014 00001000 z z z z 00127000 05000000 000a0000 00002100 z",
+    ),
+    (
+        "U 01200002 z z 00001000 2a000000 00140000 01000000 z",
+        "< 21200002 00000102 00000014 00001000 z z z z 00127000 05000000 000a0000 00002100 z",
+    ),
+    // Too few bytes are expected.
+    (
+        "U 01400003 z z 00000fff 28000000 00050000 01000000 z",
+        "< 21200003 00000102 00000014 00000fff z z z z 00127000 05000000 000a0000 00002400 z",
+    ),
+    // Another unit.
+    (
+        "U 01400104 z z 00001000 28000000 00050000 01000000 z",
+        "< 21200104 00000102 00000014 00001000 z z z z 00127000 05000000 000a0000 00002500 z",
+    ),
+];
+
+/// Two blocks are read, then one with more bytes expected than are moved, then none.
+const READ_MANY: [(&str, &str); 6] = [
+    ("U 01400004 z z 00002000 28000000 z 02000000 z", ""),
+    (
+        "D",
+        "< 22000004 z 00001000 z 00001000 z z z block / \
+         < 22000004 z 00001000 00001000 00001000 z z z zeros / < 21000004 z z z z z z z",
+    ),
+    ("U 01400005 z z 00002000 28000000 z 01000000 z", ""),
+    (
+        "D",
+        "< 22000005 z 00001000 z 00001000 z z z block / < 21200005 z z 00001000 z z z z",
+    ),
+    ("U 01400006 z z z 28000000 z 00000000 z", ""),
+    ("D", "< 21000006 z z z z z z z"),
+];
+
+/// Data that a write doesn't wait for, by tag and unit: it waits on. Then its data come.
+const STRAY: [(&str, &str); 2] = [
+    (
+        "U 02000003 z 00001000 z 00001000 z z z block",
+        "< 3f000003 00000100 z 09000000 z z z z",
+    ),
+    (
+        "U 02000102 z 00001000 z 00001000 z z z block",
+        "< 3f000102 00000100 z 09000000 z z z z",
+    ),
+];
+
+/// Data of another offset and of another count, of which each ends the write.
+const WRONG_PLACE: [(&str, &str); 1] = [(
+    "U 02000002 z 00001000 00000001 00001000 z z z block",
+    "< 21200002 00000102 00000014 00001000 z z z z 00127000 0b000000 000a0000 00004b00 z",
+)];
+
+const WRONG_COUNT: [(&str, &str); 1] = [(
+    "U 02000002 z 00001000 z 00000fff z z z block",
+    "< 21200002 00000102 00000014 00001000 z z z z 00127000 0b000000 000a0000 00004b00 z",
+)];
+
+/// A block is written by steps. Where the write waits for its data a step does nothing.
+const WRITTEN_BY_STEPS: [(&str, &str); 7] = [
+    ("S 5", ""),
+    ("U 01200002 z z 00001000 2a000000 z 01000000 z", ""),
+    ("S 3", "< 31000002 z z z 00001000 z z z"),
+    ("S 1", ""),
+    ("U 02000002 z 00001000 z 00001000 z z z block", ""),
+    ("S 1", ""),
+    ("S 999999", "< 21000002 z z z z z z z"),
+];
+
+/// Two blocks are read by steps, with lines between them that do nothing.
+const STEPPED: [(&str, &str); 9] = [
+    ("U 01400004 z z 00002000 28000000 z 02000000 z", ""),
+    ("S 0", ""),
+    ("S 1", "< 22000004 z 00001000 z 00001000 z z z block"),
+    ("", ""),
+    (
+        "S 000001",
+        "< 22000004 z 00001000 00001000 00001000 z z z zeros",
+    ),
+    ("# comment", ""),
+    ("S 1", "< 21000004 z z z z z z z"),
+    ("S 5", ""),
+    ("D", ""),
+];
 
 /// A write of nine blocks. Its data come in three pieces, and it is answered once all of them are programmed.
 const NINE_BLOCKS: [(&str, &str); 8] = [
@@ -90,39 +274,74 @@ const IN_ORDER: [(&str, &str); 6] = [
     ("D", "< 21000002 z z z z z z z / < 21000003 z z z z z z z"),
 ];
 
-/// The hex digits.
-const DIGITS: [&str; 16] = [
-    "0", "1", "2", "3", "4", "5", "6", "7", "8", "9", "a", "b", "c", "d", "e", "f",
+/// No call of the chip has this number.
+const NONE: u64 = 1000;
+
+/// The name of a row, how often a block is written first, its tables, and the number of the call of the chip that fails.
+const ROWS: [(&str, usize, &[&[(&str, &str)]], u64); 15] = [
+    ("nothing", 0, &[], NONE),
+    ("never written", 0, &[&UNWRITTEN], NONE),
+    ("full", 32, &[&ASKED, &NO_PAGE, &READ_BACK], NONE),
+    (
+        "failed program",
+        0,
+        &[
+            &ASKED,
+            &UNPROGRAMMED,
+            &STILL_UNWRITTEN,
+            &ASKED,
+            &GIVEN,
+            &READ_BACK,
+        ],
+        1,
+    ),
+    ("failed read", 1, &[&UNREAD, &READ_BACK], 2),
+    ("at rest", 0, &[&ANSWERED, &CHECKED], NONE),
+    (
+        "while a write waits",
+        0,
+        &[&ASKED, &ANSWERED, &GIVEN, &READ_BACK],
+        NONE,
+    ),
+    ("one by one", 1, &[&READ_MANY], NONE),
+    (
+        "other data",
+        0,
+        &[
+            &ASKED,
+            &STRAY,
+            &GIVEN,
+            &ASKED,
+            &WRONG_PLACE,
+            &ASKED,
+            &WRONG_COUNT,
+            &READ_MANY,
+        ],
+        NONE,
+    ),
+    ("by steps", 0, &[&WRITTEN_BY_STEPS, &STEPPED], NONE),
+    ("nine blocks", 0, &[&NINE_BLOCKS], NONE),
+    ("at the end", 0, &[&AT_THE_END], NONE),
+    ("wrong offset", 0, &[&WRONG_OFFSET], NONE),
+    ("fifth call", 0, &[&FIFTH_CALL], 5),
+    ("in order", 0, &[&IN_ORDER], NONE),
 ];
 
-/// Adds TEST UNIT READY with a tag of two digits, behind a mark.
-fn push_command(text: &mut Vec<u8>, mark: &str, ten: &str, unit: &str) -> Result<(), Fail> {
-    text.extend_from_slice(mark.as_bytes())?;
-    text.extend_from_slice(b" 014000")?;
-    text.extend_from_slice(ten.as_bytes())?;
-    text.extend_from_slice(unit.as_bytes())?;
-    for _word in 0..7 {
-        text.extend_from_slice(b"00000000")?;
-    }
-    text.push(b'\n')?;
-    Ok(())
-}
-
-/// Adds 32 commands, with the tags 0 to 31.
-fn add_full_set(script: &mut Script) -> Result<(), Fail> {
-    for ten in ["0", "1"] {
-        for unit in DIGITS {
-            push_command(&mut script.trace, "U", ten, unit)?;
-            push_command(&mut script.printed, ">", ten, unit)?;
-        }
-    }
-    Ok(())
-}
-
-/// Whether a script is printed whole, where the calls of the chip with these numbers fail.
-fn is_row(alloc: Global, lines: &[(&str, &str)], call: u64) -> Result<bool, Fail> {
+/// Whether a row is printed whole.
+fn is_row(
+    alloc: Global,
+    writes: usize,
+    tables: &[&[(&str, &str)]],
+    call: u64,
+) -> Result<bool, Fail> {
     let mut script = Script::new(alloc);
-    script.add(lines)?;
+    for _write in 0..writes {
+        script.add(&ASKED)?;
+        script.add(&GIVEN)?;
+    }
+    for lines in tables.iter().copied() {
+        script.add(lines)?;
+    }
     let mut outside = Outside::faultless(alloc);
     outside.calls.push(call)?;
     is_printed(alloc, &script, outside)
@@ -130,33 +349,8 @@ fn is_row(alloc: Global, lines: &[(&str, &str)], call: u64) -> Result<bool, Fail
 
 #[test]
 fn rows_are_printed_byte_for_byte(rt: HostRuntime) -> Result<(), Fail> {
-    let rows: [(&str, &[(&str, &str)], u64); 5] = [
-        ("nine blocks", &NINE_BLOCKS, 1000),
-        ("at the end", &AT_THE_END, 1000),
-        ("wrong offset", &WRONG_OFFSET, 1000),
-        ("fifth call", &FIFTH_CALL, 5),
-        ("in order", &IN_ORDER, 1000),
-    ];
-    for (name, lines, call) in rows {
-        assert!(rt; is_row(rt.alloc(), lines, call)?, "{name}");
+    for (name, writes, tables, call) in ROWS {
+        assert!(rt; is_row(rt.alloc(), writes, tables, call)?, "{name}");
     }
-    Ok(())
-}
-
-#[test]
-fn a_full_set_of_tasks_takes_no_more(rt: HostRuntime) -> Result<(), Fail> {
-    let mut script = Script::new(rt.alloc());
-    add_full_set(&mut script)?;
-    script.add(&[
-        (
-            "U 01400004 z z z z z z z",
-            "< 3f000004 00000100 z 08000000 z z z z",
-        ),
-        (
-            "U 01400028 z z z z z z z",
-            "< 21000028 00000128 z z z z z z",
-        ),
-    ])?;
-    assert!(rt; is_printed(rt.alloc(), &script, Outside::faultless(rt.alloc()))?);
     Ok(())
 }

@@ -1,7 +1,8 @@
-ghost use Rattle.std.specs.Prelude.{◌≡◌, ◌≤◌, []};
-ghost use Rattle.std.specs.Io.KnownBytes.{prepend_known};
-ghost use Rattle.hpb_outside.specs.Faults.{Rose};
-ghost use Rattle.trace_replay.specs.declared.program.TheConstants.{LINES};
+ghost use Rattle.std.specs.Prelude.{IsTrue, false, ◌≡◌, ◌≤◌, ◌⊎◌, [], length};
+ghost use Rattle.std.specs.Io.KnownBytes.{IsAtEnd, prepend_known};
+ghost use Rattle.trace_text.specs.Lines.{IsWithinLine};
+ghost use Rattle.trace_replay.specs.Run.{SinkEnds, SinkFaults, SourceEnds, SourceFaults};
+ghost use Rattle.trace_replay.specs.Writes.{WritesAll};
 ghost use Rattle.trace_replay.specs.Showing.{ShowIs, ShowTurnIs};
 
 use crate::program::{LINES, end_long, finish, refuse_line};
@@ -16,19 +17,19 @@ pub(crate) fn show<S: Source, K: Sink>(
     source: &mut S,
     sink: &mut K,
 ) -> Status
-    requires { buffers.old.output ≡ [] }
+    requires begun { buffers.old.reader ≡ record { held = []; ended = false } }
+    requires fresh { buffers.old.output ≡ [] }
     ensures show { ShowIs
-        (prepend_known buffers.old.reader (S.left source.old)) (prepend_known buffers.new.reader (S.left source.new))
-        (K.written sink.old) (K.written sink.new)
-        (Rose (S.faults source.old) (S.faults source.new)) (Rose (K.faults sink.old) (K.faults sink.new)) LINES result }
-    ensures source_later { S.faults source.old ≤ S.faults source.new }
-    ensures sink_later { K.faults sink.old ≤ K.faults sink.new }
+        (prepend_known buffers.old.reader.held (S.left source.old)) (S.left source.new)
+        (K.written sink.old) (K.written sink.new) 1000000 result }
+    ensures source_faults { SourceEnds (S.faults source.old) (S.faults source.new) result }
+    ensures sink_faults { SinkEnds (K.faults sink.old) (K.faults sink.new) result }
 {
     for number in 0..LINES {
         match show_line(buffers, source, sink) {
             Turn::Served => {}
             Turn::Ended => return finish(&mut buffers.output, sink, Status::Done),
-            Turn::Unread => return finish(&mut buffers.output, sink, Status::ReadFault),
+            Turn::Unread => return Status::ReadFault,
             Turn::Unwritten => return Status::WriteFault,
             Turn::Bad => return refuse_line(&mut buffers.output, sink, number + 1),
         }
@@ -38,13 +39,17 @@ pub(crate) fn show<S: Source, K: Sink>(
 
 /// Reads one line and shows it. What was gathered is written before the source is asked for more.
 fn show_line<S: Source, K: Sink>(buffers: &mut Buffers, source: &mut S, sink: &mut K) -> Turn
+    requires { IsTrue buffers.old.reader.ended → IsAtEnd (S.left source.old) }
     ensures turn { ShowTurnIs
-        (prepend_known buffers.old.reader (S.left source.old)) (prepend_known buffers.new.reader (S.left source.new))
+        (prepend_known buffers.old.reader.held (S.left source.old)) (prepend_known buffers.new.reader.held (S.left source.new))
         (K.written sink.old) (K.written sink.new) buffers.old.output buffers.new.output result }
-    ensures source_later { S.faults source.old ≤ S.faults source.new }
-    ensures sink_later { K.faults sink.old ≤ K.faults sink.new }
-    ensures unread { result ≡ Turn.Unread → Rose (S.faults source.old) (S.faults source.new) }
-    ensures unwritten { result ≡ Turn.Unwritten → Rose (K.faults sink.old) (K.faults sink.new) }
+    ensures at_end { IsTrue buffers.new.reader.ended → IsAtEnd (S.left source.new) }
+    // The source is asked only once all that was gathered is written.
+    ensures asked { (source.new ≡ source.old) ⊎ WritesAll (K.written sink.old) (K.written sink.new) buffers.old.output }
+    ensures unread { result ≡ Turn.Unread → IsWithinLine buffers.new.reader.held
+        × (length buffers.new.reader.held ≤ 131200) }
+    ensures source_faults { SourceFaults (S.faults source.old) (S.faults source.new) result }
+    ensures sink_faults { SinkFaults (K.faults sink.old) (K.faults sink.new) result }
 {
     if write_before_read(&buffers.reader, &mut buffers.output, sink).is_err() {
         return Turn::Unwritten;

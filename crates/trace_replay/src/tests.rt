@@ -1,84 +1,41 @@
-//! Whole runs over bytes and a chip in memory: what is printed, and how the run ends.
+//! Whole runs over bytes and a chip in memory: cuts and faults in mid-stream, lines that are refused, and limits.
 use super::*;
 use crate::texts::push_words;
-use flash_pages::{Flash, Geometry, MemFlash, PageView, Spare};
-use hpb_outside::{Failed, MemSink, MemSource};
+use flash_pages::{Geometry, MemFlash};
+use hpb_outside::{MemSink, MemSource};
 use std::alloc::Global;
 use std::process::Abort;
 use std::test::Fail;
 
-/// A chip whose unit has 20 blocks.
+/// A chip whose unit has 20 blocks, and the words that name it.
 const CHIP: Geometry = Geometry {
     blocks: 8,
     pages: 4,
 };
 
+const REPLAY: &str = "replay --blocks 8 --pages 4";
+
 /// More than any of these runs prints.
 const ROOM: usize = 1_000_000;
 
-/// A block that was never written is read.
-const UNWRITTEN: [(&str, &str); 2] = [
-    ("U 01400001 z z 00001000 28000000 00050000 01000000 z", ""),
-    (
-        "D",
-        "< 22000001 z 00001000 z 00001000 z z z zeros / < 21000001 z z z z z z z",
-    ),
-];
-
-/// A block is written.
-pub const WRITTEN: [(&str, &str); 4] = [
+/// A write is asked for its data.
+pub const ASKED: [(&str, &str); 2] = [
     ("U 01200002 z z 00001000 2a000000 z 01000000 z", ""),
     ("D", "< 31000002 z z z 00001000 z z z"),
+];
+
+/// The data of a write, which is answered GOOD.
+pub const GIVEN: [(&str, &str); 2] = [
     ("U 02000002 z 00001000 z 00001000 z z z block", ""),
     ("D", "< 21000002 z z z z z z z"),
 ];
 
 /// A block that was written is read.
-const READ_BACK: [(&str, &str); 2] = [
+pub const READ_BACK: [(&str, &str); 2] = [
     ("U 01400003 z z 00001000 28000000 z 01000000 z", ""),
     (
         "D",
         "< 22000003 z 00001000 z 00001000 z z z block / < 21000003 z z z z z z z",
-    ),
-];
-
-/// A block is to be written, and no page is left.
-const FULL: [(&str, &str); 4] = [
-    ("U 01200002 z z 00001000 2a000000 z 01000000 z", ""),
-    ("D", "< 31000002 z z z 00001000 z z z"),
-    ("U 02000002 z 00001000 z 00001000 z z z block", ""),
-    (
-        "D",
-        "< 21000002 00000102 00000014 z z z z z 00127000 07000000 000a0000 00002700 z",
-    ),
-];
-
-/// A block is written, and the chip fails.
-const UNPROGRAMMED: [(&str, &str); 4] = [
-    ("U 01200002 z z 00001000 2a000000 z 01000000 z", ""),
-    ("D", "< 31000002 z z z 00001000 z z z"),
-    ("U 02000002 z 00001000 z 00001000 z z z block", ""),
-    (
-        "D",
-        "! program / < 21000002 00000102 00000014 z z z z z 00127000 03000000 000a0000 00000c00 z",
-    ),
-];
-
-/// A block whose write failed is read.
-const STILL_UNWRITTEN: [(&str, &str); 2] = [
-    ("U 01400003 z z 00001000 28000000 z 01000000 z", ""),
-    (
-        "D",
-        "< 22000003 z 00001000 z 00001000 z z z zeros / < 21000003 z z z z z z z",
-    ),
-];
-
-/// A block that was written is read, and the chip fails.
-const UNREAD: [(&str, &str); 2] = [
-    ("U 01400003 z z 00001000 28000000 z 01000000 z", ""),
-    (
-        "D",
-        "! read / < 21200003 00000102 00000014 00001000 z z z z 00127000 03000000 000a0000 00001100 z",
     ),
 ];
 
@@ -121,12 +78,12 @@ impl Script {
         Ok(())
     }
 
-    /// What the first lines print.
-    fn printed_of(&self, lines: usize) -> &[u8] {
-        if lines == 0 {
+    /// What the lines before the one with this number print.
+    fn printed_before(&self, number: usize) -> &[u8] {
+        if number < 2 {
             return &[];
         }
-        match self.printed_ends.get(lines - 1) {
+        match self.printed_ends.get(number - 2) {
             Some(end) => self.printed.get(..*end).unwrap_or(&[]),
             None => &self.printed,
         }
@@ -136,7 +93,8 @@ impl Script {
 /// A block written and read back.
 fn one_block(alloc: Global) -> Result<Script, Fail> {
     let mut script = Script::new(alloc);
-    script.add(&WRITTEN)?;
+    script.add(&ASKED)?;
+    script.add(&GIVEN)?;
     script.add(&READ_BACK)?;
     Ok(script)
 }
@@ -171,11 +129,35 @@ pub struct Ran {
     pub printed: Vec<u8>,
 }
 
-fn run_words(alloc: Global, words: &[&str], trace: &[u8], outside: Outside) -> Result<Ran, Fail> {
-    let mut names = Vec::new(alloc);
-    for word in words {
-        names.push(String::from_str(alloc, *word)?)?;
+impl Ran {
+    /// Whether the run ended so, and printed this and no more.
+    pub fn is_end(&self, status: Status, printed: &[u8]) -> bool {
+        self.status == status && self.printed.as_slice() == printed
     }
+}
+
+/// The text of words.
+pub fn text_of(alloc: Global, words: &str) -> Result<Vec<u8>, Fail> {
+    let mut text = Vec::new(alloc);
+    push_words(&mut text, words)?;
+    Ok(text)
+}
+
+/// Words that a blank parts; two blanks have an empty word between them.
+pub fn words_of(alloc: Global, text: &str) -> Result<Vec<String>, Fail> {
+    let mut words = Vec::new(alloc);
+    if text.is_empty() {
+        return Ok(words);
+    }
+    for word in text.split(' ') {
+        words.push(String::from_str(alloc, word)?)?;
+    }
+    Ok(words)
+}
+
+/// Runs these words over a text and an erased chip.
+pub fn run_words(alloc: Global, words: &str, text: &[u8], outside: Outside) -> Result<Ran, Fail> {
+    let names = words_of(alloc, words)?;
     let Outside {
         cuts,
         reads,
@@ -183,7 +165,7 @@ fn run_words(alloc: Global, words: &[&str], trace: &[u8], outside: Outside) -> R
         calls,
         room,
     } = outside;
-    let mut source = MemSource::new(trace.to_vec(alloc)?, cuts, reads);
+    let mut source = MemSource::new(text.to_vec(alloc)?, cuts, reads);
     let mut sink = MemSink::new(alloc, room, writes)?;
     let flash = MemFlash::new(alloc, CHIP, calls)?;
     let outcome = run(alloc, &names, &mut source, &mut sink, flash);
@@ -194,41 +176,13 @@ fn run_words(alloc: Global, words: &[&str], trace: &[u8], outside: Outside) -> R
 }
 
 pub fn replay(alloc: Global, trace: &[u8], outside: Outside) -> Result<Ran, Fail> {
-    let words = ["replay", "--blocks", "8", "--pages", "4"];
-    run_words(alloc, &words, trace, outside)
+    run_words(alloc, REPLAY, trace, outside)
 }
 
 /// Replays a script, and tells whether all of it was printed.
 pub fn is_printed(alloc: Global, script: &Script, outside: Outside) -> Result<bool, Fail> {
     let ran = replay(alloc, &script.trace, outside)?;
-    Ok(ran.status == Status::Done && ran.printed.as_slice() == script.printed.as_slice())
-}
-
-#[test]
-fn nothing_is_printed_for_nothing(rt: HostRuntime) -> Result<(), Fail> {
-    let script = Script::new(rt.alloc());
-    assert!(rt; is_printed(rt.alloc(), &script, Outside::faultless(rt.alloc()))?);
-    Ok(())
-}
-
-#[test]
-fn a_block_never_written_is_zeros(rt: HostRuntime) -> Result<(), Fail> {
-    let mut script = Script::new(rt.alloc());
-    script.add(&UNWRITTEN)?;
-    assert!(rt; is_printed(rt.alloc(), &script, Outside::faultless(rt.alloc()))?);
-    Ok(())
-}
-
-#[test]
-fn a_block_is_written_until_the_chip_is_full(rt: HostRuntime) -> Result<(), Fail> {
-    let mut script = Script::new(rt.alloc());
-    for _write in 0..32 {
-        script.add(&WRITTEN)?;
-    }
-    script.add(&FULL)?;
-    script.add(&READ_BACK)?;
-    assert!(rt; is_printed(rt.alloc(), &script, Outside::faultless(rt.alloc()))?);
-    Ok(())
+    Ok(ran.is_end(Status::Done, &script.printed))
 }
 
 /// So many places, evenly apart.
@@ -275,176 +229,117 @@ fn only(alloc: Global, number: u64) -> Result<Vec<u64>, Fail> {
     Ok(list)
 }
 
-#[test]
-fn a_failed_read_ends_the_run_after_the_lines_before(rt: HostRuntime) -> Result<(), Fail> {
-    let script = one_block(rt.alloc())?;
-    for lines in 0..7usize {
-        let outside = Outside {
-            cuts: script.trace_ends.clone()?,
-            reads: only(rt.alloc(), lines as u64 + 1)?,
-            ..Outside::faultless(rt.alloc())
-        };
-        let ran = replay(rt.alloc(), &script.trace, outside)?;
-        assert!(rt; ran.status == Status::ReadFault, "after {lines} lines");
-        assert_eq!(rt;
-            ran.printed.as_slice(),
-            script.printed_of(lines),
-            "after {lines} lines"
-        );
-    }
-    Ok(())
+/// Replays a script, of which each read gives one line. The read and the write with these numbers fail.
+fn replay_by_lines(alloc: Global, script: &Script, read: u64, write: u64) -> Result<Ran, Fail> {
+    let outside = Outside {
+        cuts: script.trace_ends.clone()?,
+        reads: only(alloc, read)?,
+        writes: only(alloc, write)?,
+        ..Outside::faultless(alloc)
+    };
+    replay(alloc, &script.trace, outside)
 }
 
 #[test]
-fn a_failed_write_ends_the_run_after_the_lines_before(rt: HostRuntime) -> Result<(), Fail> {
+fn a_fault_ends_a_replay_behind_what_was_printed(rt: HostRuntime) -> Result<(), Fail> {
     let script = one_block(rt.alloc())?;
-    for lines in 0..6usize {
-        let outside = Outside {
-            cuts: script.trace_ends.clone()?,
-            writes: only(rt.alloc(), lines as u64 + 1)?,
-            ..Outside::faultless(rt.alloc())
-        };
-        let ran = replay(rt.alloc(), &script.trace, outside)?;
-        assert!(rt; ran.status == Status::WriteFault, "after {lines} lines");
-        assert_eq!(rt;
-            ran.printed.as_slice(),
-            script.printed_of(lines),
-            "after {lines} lines"
-        );
+    // The seventh read gives no line, and there is no eighth. Each write takes what one line prints.
+    for (call, read, write) in [
+        (1, Status::ReadFault, Status::WriteFault),
+        (2, Status::ReadFault, Status::WriteFault),
+        (3, Status::ReadFault, Status::WriteFault),
+        (4, Status::ReadFault, Status::WriteFault),
+        (5, Status::ReadFault, Status::WriteFault),
+        (6, Status::ReadFault, Status::WriteFault),
+        (7, Status::ReadFault, Status::Done),
+        (8, Status::Done, Status::Done),
+    ] {
+        let printed = script.printed_before(call);
+        let ran = replay_by_lines(rt.alloc(), &script, call as u64, 0)?;
+        assert!(rt; ran.is_end(read, printed), "read {call}");
+        let ran = replay_by_lines(rt.alloc(), &script, 0, call as u64)?;
+        assert!(rt; ran.is_end(write, printed), "write {call}");
     }
-    Ok(())
-}
-
-#[test]
-fn a_sink_without_room_ends_the_run(rt: HostRuntime) -> Result<(), Fail> {
-    let script = one_block(rt.alloc())?;
     for room in [0, 1, 66, 67, 68, 134, 8000, 16_000] {
         let outside = Outside {
             room,
             ..Outside::faultless(rt.alloc())
         };
         let ran = replay(rt.alloc(), &script.trace, outside)?;
-        assert!(rt; ran.status == Status::WriteFault, "room for {room}");
-        assert_eq!(rt; ran.printed.len(), room);
-        assert!(rt; script.printed.starts_with(&ran.printed), "room for {room}");
-    }
-    let enough = Outside {
-        room: script.printed.len(),
-        ..Outside::faultless(rt.alloc())
-    };
-    assert!(rt; is_printed(rt.alloc(), &script, enough)?);
-    Ok(())
-}
-
-#[test]
-fn a_failed_program_is_answered(rt: HostRuntime) -> Result<(), Fail> {
-    let mut script = Script::new(rt.alloc());
-    script.add(&UNPROGRAMMED)?;
-    script.add(&STILL_UNWRITTEN)?;
-    script.add(&WRITTEN)?;
-    script.add(&READ_BACK)?;
-    let outside = Outside {
-        calls: only(rt.alloc(), 1)?,
-        ..Outside::faultless(rt.alloc())
-    };
-    assert!(rt; is_printed(rt.alloc(), &script, outside)?);
-    Ok(())
-}
-
-#[test]
-fn a_failed_read_of_the_chip_is_answered(rt: HostRuntime) -> Result<(), Fail> {
-    let mut script = Script::new(rt.alloc());
-    script.add(&WRITTEN)?;
-    script.add(&UNREAD)?;
-    script.add(&READ_BACK)?;
-    let outside = Outside {
-        calls: only(rt.alloc(), 2)?,
-        ..Outside::faultless(rt.alloc())
-    };
-    assert!(rt; is_printed(rt.alloc(), &script, outside)?);
-    Ok(())
-}
-
-/// Whether these words are refused.
-fn is_usage(alloc: Global, words: &[&str]) -> Result<bool, Fail> {
-    let ran = run_words(alloc, words, b"D\n", Outside::faultless(alloc))?;
-    Ok(ran.status == Status::Usage && ran.printed.as_slice() == b"E usage\n".as_slice())
-}
-
-#[test]
-fn other_words_are_refused(rt: HostRuntime) -> Result<(), Fail> {
-    assert!(rt; is_usage(rt.alloc(), &[])?);
-    assert!(rt; is_usage(rt.alloc(), &["shows"])?);
-    assert!(rt; is_usage(rt.alloc(), &["show", "replay"])?);
-    assert!(rt; is_usage(rt.alloc(), &["Replay"])?);
-    assert!(rt; is_usage(rt.alloc(), &["replay", "x"])?);
-    let outside = Outside {
-        writes: only(rt.alloc(), 1)?,
-        ..Outside::faultless(rt.alloc())
-    };
-    let ran = run_words(rt.alloc(), &["shows"], b"D\n", outside)?;
-    assert!(rt; ran.status == Status::WriteFault && ran.printed.is_empty());
-    Ok(())
-}
-
-/// Whether a line that follows a comment and an empty line is refused, by its number.
-fn is_refused(alloc: Global, words: &str) -> Result<bool, Fail> {
-    let mut trace = b"# comment\n\n".as_slice().to_vec(alloc)?;
-    push_words(&mut trace, words)?;
-    let ran = replay(alloc, &trace, Outside::faultless(alloc))?;
-    Ok(ran.status == Status::BadLine(3) && ran.printed.as_slice() == b"E line 3\n".as_slice())
-}
-
-#[test]
-fn other_lines_are_refused(rt: HostRuntime) -> Result<(), Fail> {
-    for line in ["U 0", "U 0g", "S", "S 1234567", "C 1", "R", "X", "d", "D\r"] {
-        assert!(rt; is_refused(rt.alloc(), line)?, "{line}");
+        let printed = script.printed.get(..room).unwrap_or(&[]);
+        assert!(rt; ran.is_end(Status::WriteFault, printed), "room for {room}");
     }
     Ok(())
 }
 
-/// Bytes that are no UPIU, by the first condition that they break, and a NOP OUT.
-const ANSWERED: [(&str, &str); 8] = [
-    (
-        "U z z z z z z z 000000",
-        "< 3f000000 00000100 z 01000000 z z z z",
-    ),
-    (
-        "U 41000000 z 01000000 z z z z z",
-        "< 3f000000 00000100 z 02000000 z z z z",
-    ),
-    (
-        "U 01000000 z 01000000 z z z z z",
-        "< 3f000000 00000100 z 03000000 z z z z",
-    ),
-    (
-        "U z z 00000001 z z z z z",
-        "< 3f000000 00000100 z 04000000 z z z z",
-    ),
-    (
-        "U 3e000000 z z z z z z z",
-        "< 3f000000 00000100 z 05000000 z z z z",
-    ),
-    (
-        "U 01000000 01000000 z z z z z z",
-        "< 3f000000 00000100 z 06000000 z z z z",
-    ),
-    (
-        "U 3e000207 z z z z z z z",
-        "< 3f000207 00000100 z 05000000 z z z z",
-    ),
-    ("U 00000008 z z z z z z z", "< 20000008 z z z z z z z"),
+/// Words, a text, the numbers of the read and of the write that fails, how the run ends, and what it prints.
+const FAULTS: [(&str, &str, u64, u64, Status, &str); 8] = [
+    ("show", "D / D / D", 9, 9, Status::Done, "D / D / D / "),
+    ("show", "D / D / D", 1, 9, Status::ReadFault, ""),
+    ("show", "D / D / D", 2, 9, Status::ReadFault, "D / "),
+    ("show", "D / D / D", 9, 2, Status::WriteFault, "D / "),
+    // The last line, which says why a run ended, is written too.
+    ("show", "D / X", 9, 2, Status::WriteFault, "D / "),
+    (REPLAY, "D / X", 9, 1, Status::WriteFault, ""),
+    ("shows", "", 9, 1, Status::WriteFault, ""),
+    ("replay", "", 9, 1, Status::WriteFault, ""),
 ];
 
-/// They are answered while a write waits for its data, which is as before.
 #[test]
-fn what_changes_nothing_is_answered(rt: HostRuntime) -> Result<(), Fail> {
-    let mut script = Script::new(rt.alloc());
-    script.add(&WRITTEN[..2])?;
-    script.add(&ANSWERED)?;
-    script.add(&WRITTEN[2..])?;
-    script.add(&READ_BACK)?;
-    assert!(rt; is_printed(rt.alloc(), &script, Outside::faultless(rt.alloc()))?);
+fn a_fault_ends_each_command(rt: HostRuntime) -> Result<(), Fail> {
+    for (words, text, read, write, status, printed) in FAULTS {
+        let outside = Outside {
+            cuts: places(rt.alloc(), 2, 2, 9)?,
+            reads: only(rt.alloc(), read)?,
+            writes: only(rt.alloc(), write)?,
+            ..Outside::faultless(rt.alloc())
+        };
+        let text = text_of(rt.alloc(), text)?;
+        let ran = run_words(rt.alloc(), words, &text, outside)?;
+        let printed = text_of(rt.alloc(), printed)?;
+        assert!(rt;
+            ran.is_end(status, &printed),
+            "{words}, read {read}, write {write}"
+        );
+    }
+    Ok(())
+}
+
+#[test]
+fn other_lines_are_refused_behind_what_was_served(rt: HostRuntime) -> Result<(), Fail> {
+    for line in ["U 0", "U 0g", "S", "S 1234567", "C 1", "R", "X", "d", "D\r"] {
+        let mut script = one_block(rt.alloc())?;
+        script.add(&[("# comment", ""), ("", "")])?;
+        push_words(&mut script.trace, line)?;
+        script.printed.extend_from_slice(b"E line 9\n")?;
+        let ran = replay(rt.alloc(), &script.trace, Outside::faultless(rt.alloc()))?;
+        assert!(rt; ran.is_end(Status::BadLine(9), &script.printed), "{line}");
+    }
+    Ok(())
+}
+
+/// Texts, how they are shown, and how that ends.
+const SHOWN: [(&str, Status, &str); 3] = [
+    (
+        "U 01400001 z z 00001000 28000000 00050000 01000000 z / ! read / \
+         < 21000004 z 00000014 z z z z z 00128010 01000100 00000002 z z / \
+         < 3F000000 00000100 z 05000000 z z z z / D",
+        Status::Done,
+        "COMMAND lun=0 tag=1 exp=4096 READ lba=5 n=1\n! read\n\
+         RESPONSE lun=0 tag=4 status=00 resid=0 hint op=1 lun=0 act=0:2 inact=\n\
+         REJECT lun=0 tag=0 reason=5\nD\n",
+    ),
+    ("D / > 0", Status::BadLine(2), "D\nE line 2\n"),
+    ("< / < 0g / D", Status::BadLine(2), "BAD 1\nE line 2\n"),
+];
+
+#[test]
+fn texts_are_shown(rt: HostRuntime) -> Result<(), Fail> {
+    for (text, status, printed) in SHOWN {
+        let text = text_of(rt.alloc(), text)?;
+        let ran = run_words(rt.alloc(), "show", &text, Outside::faultless(rt.alloc()))?;
+        assert!(rt; ran.is_end(status, printed.as_bytes()), "{printed}");
+    }
     Ok(())
 }
 
@@ -458,166 +353,19 @@ fn comments(alloc: Global, count: usize) -> Result<Vec<u8>, Fail> {
 }
 
 #[test]
-fn a_trace_has_a_million_lines_at_most(rt: HostRuntime) -> Result<(), Fail> {
+fn lines_have_limits(rt: HostRuntime) -> Result<(), Fail> {
     let mut trace = comments(rt.alloc(), 1_000_000)?;
     let ran = replay(rt.alloc(), &trace, Outside::faultless(rt.alloc()))?;
-    assert!(rt; ran.status == Status::Done && ran.printed.is_empty());
+    assert!(rt; ran.is_end(Status::Done, b""));
     trace.push(b'#')?;
     let ran = replay(rt.alloc(), &trace, Outside::faultless(rt.alloc()))?;
-    assert!(rt; ran.status == Status::LongTrace);
-    assert_eq!(rt; ran.printed.as_slice(), b"E long\n".as_slice());
-    Ok(())
-}
-
-/// A chip of 2 erase blocks of 2 pages, which is smaller than those that are served. Each of its calls fails.
-#[derive(Drop)]
-struct LittleChip {
-    /// Whether page 0 is shown.
-    shown: bool,
-}
-
-impl Flash for LittleChip {
-    ghost use Rattle.std.specs.Prelude.{◌-◌, ◌^◌, ℕ, List, Some, None, map, replicate, if◌then◌else◌};
-    ghost use Rattle.std.proofs.Common.{refl};
-    ghost use Rattle.std.proofs.lemmas.List.{length-replicate};
-    ghost use Rattle.flash_pages.specs.declared.slot.Slot.{Slot};
-    ghost use Rattle.flash_pages.specs.Memory.{page_of, IsChip-map};
-
-    ghost geometry = { λ _. record { blocks = 2; pages = 2 } };
-
-    ghost pages = { λ _. map page_of
-        (replicate 4 (record { bytes = replicate 4096 0; spare = None; whole = length-replicate {A = ℕ} 4096 0 })) };
-
-    ghost shown_page = { λ c. if c.shown then Some 0 else None };
-
-    ghost calls = { λ _. 2 ^ 64 - 1 };
-
-    ghost faults = { λ _. 2 ^ 64 - 1 };
-
-    ghost whole = { λ _. IsChip-map (record { blocks = 2; pages = 2 })
-        (replicate 4 (record { bytes = replicate 4096 0; spare = None; whole = length-replicate {A = ℕ} 4096 0 })) refl };
-
-    fn geometry(&self) -> Geometry {
-        Geometry {
-            blocks: 2,
-            pages: 2,
-        }
+    assert!(rt; ran.is_end(Status::LongTrace, b"E long\n"));
+    for (size, status) in [(131_200, Status::Done), (131_201, Status::BadLine(1))] {
+        let line = vec![in rt.alloc(); b'#'; size]?;
+        let ran = replay(rt.alloc(), &line, Outside::faultless(rt.alloc()))?;
+        assert_eq!(rt; ran.status, status, "{size} bytes");
+        let ran = run_words(rt.alloc(), "show", &line, Outside::faultless(rt.alloc()))?;
+        assert_eq!(rt; ran.status, status, "{size} bytes");
     }
-
-    fn read(&mut self, _page: u32) -> Result<(), Failed> {
-        self.shown = false;
-        Err(Failed)
-    }
-
-    fn shown(&self) -> PageView<'_> {
-        PageView::Erased
-    }
-
-    fn program(&mut self, _page: u32, _bytes: &[u8], _spare: Spare) -> Result<(), Failed> {
-        self.shown = false;
-        Err(Failed)
-    }
-
-    fn erase(&mut self, _block: u32) -> Result<(), Failed> {
-        self.shown = false;
-        Err(Failed)
-    }
-}
-
-#[test]
-fn a_chip_that_is_too_small_is_refused(rt: HostRuntime) -> Result<(), Fail> {
-    let alloc = rt.alloc();
-    let mut words = Vec::new(alloc);
-    for word in ["replay", "--blocks", "2", "--pages", "2"] {
-        words.push(String::from_str(alloc, word)?)?;
-    }
-    let mut source = MemSource::new(Vec::new(alloc), Vec::new(alloc), Vec::new(alloc));
-    let mut sink = MemSink::new(alloc, ROOM, Vec::new(alloc))?;
-    let outcome = run(
-        alloc,
-        &words,
-        &mut source,
-        &mut sink,
-        LittleChip { shown: false },
-    );
-    assert!(rt; outcome.status == Status::Geometry);
-    assert_eq!(rt; sink.bytes(), b"E geometry\n".as_slice());
-    Ok(())
-}
-
-/// What `show` prints for a text of words, and how it ends.
-fn show(alloc: Global, words: &str, outside: Outside) -> Result<Ran, Fail> {
-    let mut text = Vec::new(alloc);
-    push_words(&mut text, words)?;
-    run_words(alloc, &["show"], &text, outside)
-}
-
-#[test]
-fn a_transcript_is_shown(rt: HostRuntime) -> Result<(), Fail> {
-    let ran = show(
-        rt.alloc(),
-        "U 01400001 z z 00001000 28000000 00050000 01000000 z / ! read / \
-         < 21000004 z 00000014 z z z z z 00128010 01000100 00000002 z z / \
-         < 3F000000 00000100 z 05000000 z z z z / D",
-        Outside::faultless(rt.alloc()),
-    )?;
-    assert!(rt; ran.status == Status::Done);
-    assert_eq!(rt;
-        ran.printed.as_slice(),
-        b"COMMAND lun=0 tag=1 exp=4096 READ lba=5 n=1\n! read\n\
-          RESPONSE lun=0 tag=4 status=00 resid=0 hint op=1 lun=0 act=0:2 inact=\n\
-          REJECT lun=0 tag=0 reason=5\nD\n"
-            .as_slice()
-    );
-    Ok(())
-}
-
-#[test]
-fn a_text_that_is_no_transcript_is_refused(rt: HostRuntime) -> Result<(), Fail> {
-    let ran = show(rt.alloc(), "D / > 0", Outside::faultless(rt.alloc()))?;
-    assert!(rt; ran.status == Status::BadLine(2));
-    assert_eq!(rt; ran.printed.as_slice(), b"D\nE line 2\n".as_slice());
-    let ran = show(rt.alloc(), "< / < 0g / D", Outside::faultless(rt.alloc()))?;
-    assert!(rt; ran.status == Status::BadLine(2));
-    assert_eq!(rt; ran.printed.as_slice(), b"BAD 1\nE line 2\n".as_slice());
-    Ok(())
-}
-
-#[test]
-fn a_line_at_the_limit_is_shown(rt: HostRuntime) -> Result<(), Fail> {
-    let longest = vec![in rt.alloc(); b'#'; 131_200]?;
-    let ran = run_words(
-        rt.alloc(),
-        &["show"],
-        &longest,
-        Outside::faultless(rt.alloc()),
-    )?;
-    assert!(rt; ran.status == Status::Done && ran.printed.len() == 131_201);
-    let longer = vec![in rt.alloc(); b'#'; 131_201]?;
-    let ran = run_words(
-        rt.alloc(),
-        &["show"],
-        &longer,
-        Outside::faultless(rt.alloc()),
-    )?;
-    assert!(rt; ran.status == Status::BadLine(1));
-    assert_eq!(rt; ran.printed.as_slice(), b"E line 1\n".as_slice());
-    Ok(())
-}
-
-#[test]
-fn faults_end_what_is_shown(rt: HostRuntime) -> Result<(), Fail> {
-    let outside = Outside {
-        reads: only(rt.alloc(), 1)?,
-        ..Outside::faultless(rt.alloc())
-    };
-    let ran = show(rt.alloc(), "D", outside)?;
-    assert!(rt; ran.status == Status::ReadFault && ran.printed.is_empty());
-    let outside = Outside {
-        writes: only(rt.alloc(), 1)?,
-        ..Outside::faultless(rt.alloc())
-    };
-    let ran = show(rt.alloc(), "D", outside)?;
-    assert!(rt; ran.status == Status::WriteFault && ran.printed.is_empty());
     Ok(())
 }

@@ -3,9 +3,11 @@ ghost use Rattle.std.specs.Char.{is_ascii_digit};
 ghost use Rattle.std.specs.List.{list_all};
 ghost use Rattle.flash_pages.specs.Chip.{IsWithinLimits, erased_chip};
 ghost use Rattle.flash_pages.specs.MemFlash.{geometry_of, pages_of, plan_of};
+ghost use Rattle.trace_replay.specs.Limits.{named_numbers, numbers_of};
 ghost use Rattle.trace_replay.specs.Options.{IsCommand, chip_given, cut_shape, first_said, mode_said, number_said, option_named, unit_given, with_value, with_words};
-ghost use Rattle.trace_replay.specs.Words.{IsReplay, IsShow, is_number, named_chip};
+ghost use Rattle.trace_replay.specs.Words.{IsReplay, IsShow, is_number, named_chip, named_unit};
 
+use crate::limits::{NamedNumbers, room};
 use flash_pages::{Geometry, MemFlash};
 use hpb_outside::NoMemory;
 use region_state::{Mode, Shape};
@@ -76,15 +78,38 @@ pub(crate) fn command_of(words: &[String]) -> Option<Command>
     ensures { MatchOption result (¬ IsReplay (map string_bytes words.now) × ¬ IsShow (map string_bytes words.now))
         (λ command. IsCommand (map string_bytes words.now) command) }
 {
+    if let Some(given) = replay_of(words) {
+        return Some(Command::Replay(given.named()));
+    }
+    let [command, options @ ..] = words else {
+        return None;
+    };
+    if command.as_str() == "show" && options.is_empty() {
+        return Some(Command::Show);
+    }
+    None
+}
+
+/// The numbers that the words of `replay` name, or nothing where they aren't in form.
+pub(crate) fn numbers_of(words: &[String]) -> Option<NamedNumbers>
+    ensures { MatchOption result (¬ IsReplay (map string_bytes words.now))
+        (λ numbers. IsReplay (map string_bytes words.now) × (numbers ≡ named_numbers (map string_bytes words.now))) }
+{
+    let given = replay_of(words)?;
+    Some(given.numbers())
+}
+
+/// The options of the words of `replay`, or nothing where they aren't in form.
+fn replay_of(words: &[String]) -> Option<Given>
+    ensures { MatchOption result (¬ IsReplay (map string_bytes words.now))
+        (λ given. IsReplay (map string_bytes words.now) × (chip_given given ≡ named_chip (map string_bytes words.now))
+        × (unit_given given ≡ named_unit (map string_bytes words.now))) }
+{
     let [command, options @ ..] = words else {
         return None;
     };
     if command.as_str() == "replay" {
-        let given = read_options(options)?;
-        return Some(Command::Replay(given.named()));
-    }
-    if command.as_str() == "show" && options.is_empty() {
-        return Some(Command::Show);
+        return read_options(options);
     }
     None
 }
@@ -175,6 +200,26 @@ impl Given {
             mode: self.mode.unwrap_or(Mode::Device),
         };
         Named { chip, unit }
+    }
+
+    /// The numbers that are named, with the defaults.
+    fn numbers(self) -> NamedNumbers
+        ensures { result ≡ numbers_of (chip_given self) (unit_given self) }
+    {
+        let blocks = self.blocks.unwrap_or(64);
+        let pages = self.pages.unwrap_or(64);
+        let units = match self.units {
+            Some(units) => u64::from(units),
+            None => room(blocks, pages),
+        };
+        NamedNumbers {
+            blocks,
+            pages,
+            units,
+            region: self.region.unwrap_or(10),
+            sub: self.sub.unwrap_or(8),
+            held: self.held.unwrap_or(4),
+        }
     }
 }
 

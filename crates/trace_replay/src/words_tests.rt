@@ -1,159 +1,127 @@
 //! The words of the command line: which are in form, which chip and unit they name, and what `run` says of the others.
 use super::*;
-use crate::texts::push_words;
-use flash_pages::{Flash, Geometry, MemFlash};
-use hpb_outside::{MemSink, MemSource};
+use crate::tests::{Outside, Ran, run_words, text_of, words_of};
+use flash_pages::{Flash, Geometry};
 use std::alloc::Global;
 use std::process::Abort;
 use std::test::Fail;
 
-/// Words that a blank parts; two blanks have an empty word between them.
-fn words_of(alloc: Global, text: &str) -> Result<Vec<String>, Fail> {
-    let mut words = Vec::new(alloc);
-    if text.is_empty() {
-        return Ok(words);
-    }
-    for word in text.split(' ') {
-        words.push(String::from_str(alloc, word)?)?;
-    }
-    Ok(words)
+/// Runs words over a text, where nothing fails.
+fn run_over(alloc: Global, words: &str, text: &str) -> Result<Ran, Fail> {
+    run_words(
+        alloc,
+        words,
+        &text_of(alloc, text)?,
+        Outside::faultless(alloc),
+    )
 }
 
-/// How a run over an erased chip of 8 erase blocks of 4 pages ends, and what it prints.
-#[derive(Drop)]
-struct Ran {
-    status: Status,
-    printed: Vec<u8>,
-}
+/// Words in form.
+const SERVED: [&str; 16] = [
+    "replay --blocks 8 --pages 4",
+    "replay --pages 4 --blocks 8",
+    "replay --blocks 000000008 --pages 04",
+    "replay --blocks 8 --pages 4 --units 1",
+    "replay --blocks 8 --pages 4 --units 19",
+    "replay --blocks 8 --pages 4 --units 20",
+    "replay --blocks 8 --pages 4 --region 19",
+    "replay --blocks 8 --pages 4 --region 8",
+    "replay --blocks 8 --pages 4 --sub 3",
+    "replay --blocks 8 --pages 4 --sub 10",
+    "replay --blocks 8 --pages 4 --held 1",
+    "replay --blocks 8 --pages 4 --held 32",
+    "replay --blocks 8 --pages 4 --mode device",
+    "replay --blocks 8 --pages 4 --mode host",
+    "replay --mode host --held 1 --sub 3 --region 3 --units 1 --pages 4 --blocks 8",
+    "show",
+];
 
-fn run_over(alloc: Global, words: &str, trace: &str) -> Result<Ran, Fail> {
-    let mut text = Vec::new(alloc);
-    push_words(&mut text, trace)?;
-    let mut source = MemSource::new(text, Vec::new(alloc), Vec::new(alloc));
-    let mut sink = MemSink::new(alloc, 1_000_000, Vec::new(alloc))?;
-    let geometry = Geometry {
-        blocks: 8,
-        pages: 4,
-    };
-    let flash = MemFlash::new(alloc, geometry, Vec::new(alloc))?;
-    let names = words_of(alloc, words)?;
-    let outcome = run(alloc, &names, &mut source, &mut sink, flash);
-    Ok(Ran {
-        status: outcome.status,
-        printed: sink.bytes().to_vec(alloc)?,
-    })
-}
+/// Words that aren't in form.
+const OTHERS: [&str; 30] = [
+    // No word, no command, and `show` with more words.
+    "",
+    "Replay",
+    "replays",
+    "--blocks 8",
+    "show show",
+    "show --mode host",
+    // No pairs.
+    "replay 8",
+    "replay --blocks",
+    "replay --blocks 8 --pages",
+    "replay --blocks --pages 4",
+    "replay --blocks=8 --pages=4",
+    // Unknown options.
+    "replay --size 8",
+    "replay --Blocks 8",
+    "replay -blocks 8",
+    "replay --block 8",
+    "replay  8",
+    // An option twice.
+    "replay --blocks 8 --pages 4 --blocks 8",
+    "replay --mode host --mode host",
+    "replay --held 4 --held 5",
+    // Values that are no numbers.
+    "replay --blocks ",
+    "replay --pages 4a",
+    "replay --units +9",
+    "replay --region -9",
+    "replay --sub 0x8",
+    "replay --held 1234567890",
+    "replay --held 0000000004",
+    "replay --held four",
+    // Values that are no mode.
+    "replay --mode ",
+    "replay --mode Host",
+    "replay --mode 1",
+];
+
+/// Words with a number outside its limits, or of another chip than the one of 8 erase blocks of 4 pages.
+const OUTSIDE: [&str; 21] = [
+    // Another chip.
+    "replay",
+    "replay --blocks 8",
+    "replay --pages 4",
+    "replay --blocks 8 --pages 5",
+    "replay --blocks 3 --pages 4",
+    "replay --blocks 0 --pages 0",
+    "replay --blocks 999999999 --pages 999999999",
+    // Another unit than the chip can hold.
+    "replay --blocks 8 --pages 4 --units 0",
+    "replay --blocks 8 --pages 4 --units 21",
+    "replay --blocks 8 --pages 4 --units 999999999",
+    // Regions.
+    "replay --blocks 8 --pages 4 --region 20",
+    "replay --blocks 8 --pages 4 --region 7",
+    "replay --blocks 8 --pages 4 --sub 11",
+    "replay --blocks 8 --pages 4 --sub 2",
+    "replay --blocks 8 --pages 4 --sub 9 --region 8",
+    "replay --blocks 8 --pages 4 --held 0",
+    "replay --blocks 8 --pages 4 --held 33",
+    // A multiple of 256 more than a number within its limits.
+    "replay --blocks 8 --pages 4 --region 266",
+    "replay --blocks 8 --pages 4 --sub 264",
+    "replay --blocks 8 --pages 4 --held 260",
+    "replay --blocks 8 --pages 4 --held 999999999",
+];
 
 #[test]
-fn words_in_form_are_served(rt: HostRuntime) -> Result<(), Fail> {
-    for words in [
-        "replay --blocks 8 --pages 4",
-        "replay --pages 4 --blocks 8",
-        "replay --blocks 000000008 --pages 04",
-        "replay --blocks 8 --pages 4 --units 1",
-        "replay --blocks 8 --pages 4 --units 19",
-        "replay --blocks 8 --pages 4 --units 20",
-        "replay --blocks 8 --pages 4 --region 19",
-        "replay --blocks 8 --pages 4 --region 8",
-        "replay --blocks 8 --pages 4 --sub 3",
-        "replay --blocks 8 --pages 4 --sub 10",
-        "replay --blocks 8 --pages 4 --held 1",
-        "replay --blocks 8 --pages 4 --held 32",
-        "replay --blocks 8 --pages 4 --mode device",
-        "replay --blocks 8 --pages 4 --mode host",
-        "replay --mode host --held 1 --sub 3 --region 3 --units 1 --pages 4 --blocks 8",
-        "show",
-    ] {
-        let ran = run_over(rt.alloc(), words, "")?;
+fn words_are_served_or_refused(rt: HostRuntime) -> Result<(), Fail> {
+    for words in SERVED {
         assert!(rt;
-            ran.status == Status::Done && ran.printed.is_empty(),
+            run_over(rt.alloc(), words, "")?.is_end(Status::Done, b""),
             "{words}"
         );
     }
-    Ok(())
-}
-
-#[test]
-fn other_words_are_a_usage_fault(rt: HostRuntime) -> Result<(), Fail> {
-    for words in [
-        // No word, no command, and `show` with more words.
-        "",
-        "Replay",
-        "replays",
-        "--blocks 8",
-        "show show",
-        "show --mode host",
-        // No pairs.
-        "replay 8",
-        "replay --blocks",
-        "replay --blocks 8 --pages",
-        "replay --blocks --pages 4",
-        "replay --blocks=8 --pages=4",
-        // Unknown options.
-        "replay --size 8",
-        "replay --Blocks 8",
-        "replay -blocks 8",
-        "replay --block 8",
-        "replay  8",
-        // An option twice.
-        "replay --blocks 8 --pages 4 --blocks 8",
-        "replay --mode host --mode host",
-        "replay --held 4 --held 5",
-        // Values that are no numbers.
-        "replay --blocks ",
-        "replay --pages 4a",
-        "replay --units +9",
-        "replay --region -9",
-        "replay --sub 0x8",
-        "replay --held 1234567890",
-        "replay --held 0000000004",
-        "replay --held four",
-        // Values that are no mode.
-        "replay --mode ",
-        "replay --mode Host",
-        "replay --mode 1",
-    ] {
-        let ran = run_over(rt.alloc(), words, "D")?;
-        assert!(rt; ran.status == Status::Usage, "{words}");
-        assert_eq!(rt; ran.printed.as_slice(), b"E usage\n".as_slice(), "{words}");
+    for words in OTHERS {
+        assert!(rt;
+            run_over(rt.alloc(), words, "D")?.is_end(Status::Usage, b"E usage\n"),
+            "{words}"
+        );
     }
-    Ok(())
-}
-
-#[test]
-fn numbers_outside_their_limits_are_a_geometry_fault(rt: HostRuntime) -> Result<(), Fail> {
-    for words in [
-        // Another chip.
-        "replay",
-        "replay --blocks 8",
-        "replay --pages 4",
-        "replay --blocks 8 --pages 5",
-        "replay --blocks 3 --pages 4",
-        "replay --blocks 0 --pages 0",
-        "replay --blocks 999999999 --pages 999999999",
-        // Another unit than the chip can hold.
-        "replay --blocks 8 --pages 4 --units 0",
-        "replay --blocks 8 --pages 4 --units 21",
-        "replay --blocks 8 --pages 4 --units 999999999",
-        // Regions.
-        "replay --blocks 8 --pages 4 --region 20",
-        "replay --blocks 8 --pages 4 --region 7",
-        "replay --blocks 8 --pages 4 --sub 11",
-        "replay --blocks 8 --pages 4 --sub 2",
-        "replay --blocks 8 --pages 4 --sub 9 --region 8",
-        "replay --blocks 8 --pages 4 --held 0",
-        "replay --blocks 8 --pages 4 --held 33",
-        // A multiple of 256 more than a number within its limits.
-        "replay --blocks 8 --pages 4 --region 266",
-        "replay --blocks 8 --pages 4 --sub 264",
-        "replay --blocks 8 --pages 4 --held 260",
-        "replay --blocks 8 --pages 4 --held 999999999",
-    ] {
-        let ran = run_over(rt.alloc(), words, "D")?;
-        assert!(rt; ran.status == Status::Geometry, "{words}");
-        assert_eq!(rt;
-            ran.printed.as_slice(),
-            b"E geometry\n".as_slice(),
+    for words in OUTSIDE {
+        assert!(rt;
+            run_over(rt.alloc(), words, "D")?.is_end(Status::Geometry, b"E geometry\n"),
             "{words}"
         );
     }
@@ -196,6 +164,66 @@ fn words_name_a_chip(rt: HostRuntime) -> Result<(), Fail> {
         let names = words_of(rt.alloc(), words)?;
         let flash = chip_of(rt.alloc(), &names)?;
         assert_eq!(rt; flash.geometry(), Geometry { blocks, pages }, "{words}");
+    }
+    Ok(())
+}
+
+#[test]
+fn limits_that_are_not_kept_are_told(rt: HostRuntime) -> Result<(), Fail> {
+    for (words, limit, told) in [
+        (
+            "replay --blocks 3",
+            Limit::Blocks,
+            "--blocks 3: a number from 4 to 4096",
+        ),
+        (
+            "replay --pages 1",
+            Limit::Pages,
+            "--pages 1: a number from 2 to 256",
+        ),
+        (
+            "replay --pages 17 --blocks 4096",
+            Limit::AllPages,
+            "--blocks 4096 --pages 17: at most 65536 pages in all",
+        ),
+        (
+            "replay --blocks 8 --pages 4 --units 21",
+            Limit::Units,
+            "--units 21: a number from 1 to 20, which is (blocks - 3) * pages",
+        ),
+        (
+            "replay --region 266",
+            Limit::Region,
+            "--region 266: a number from 3 to 19",
+        ),
+        (
+            "replay --sub 2",
+            Limit::Sub,
+            "--sub 2: a number from 3 to 19",
+        ),
+        (
+            "replay --region 7",
+            Limit::SubInRegion,
+            "--region 7 --sub 8: a subregion is at most its region",
+        ),
+        (
+            "replay --held 0",
+            Limit::Held,
+            "--held 0: a number from 1 to 32",
+        ),
+        // Limits that are kept, that another one stands before, and words that aren't in form.
+        ("replay", Limit::Units, ""),
+        ("replay --blocks 3 --pages 257", Limit::AllPages, ""),
+        ("replay --blocks 3 --units 0", Limit::Units, ""),
+        ("replay --region 20 --sub 21", Limit::SubInRegion, ""),
+        ("replay --blocks", Limit::Blocks, ""),
+    ] {
+        let names = words_of(rt.alloc(), words)?;
+        let text = match geometry_fault(&names, limit) {
+            Some(fault) => format!(in rt.alloc(); "{fault}")?,
+            None => String::new(rt.alloc()),
+        };
+        assert_eq!(rt; text.as_str(), told, "{words}");
     }
     Ok(())
 }

@@ -1,22 +1,39 @@
-use Rattle.std.proofs.Common.{◌++◌, [], refl, rules, inl, arith}
-use Rattle.hpb_outside.specs.Faults.{Rose}
-use Rattle.trace_replay.specs.Run.{long_text}
-use Rattle.trace_replay.proofs.Runs.{ends_wordless, front_wordless, last_long, more_of, rose_since}
-use Rattle.trace_replay.proofs.Written.{cut_of, whole_of, flushed, gathers_more}
+use Rattle.std.proofs.Common.{◌≡◌, ◌++◌, ◌≤◌, ℕ, [], refl, sym, ap, subst, rules, inl, arith, ◌∙◌}
+use Rattle.trace_text.specs.Lines.{IsWithinLine, ReaderState}
+use Rattle.trace_text.proofs.LinesOf.{within-nil}
+use Rattle.trace_replay.specs.Run.{SinkEnds, long_text}
+use Rattle.trace_replay.specs.declared.status.Status.TheVariants.{LongTrace}
+use Rattle.trace_replay.proofs.Runs.{ends_wordless, front_wordless, last_long, last_since, more_of, sink_ended, source_ended}
+use Rattle.trace_replay.proofs.Written.{cut_of, whole_of, flushed, gathers_more, nothing_yet, up_to_end}
 use Rattle.trace_replay.specs.Writes.{HasWrittenUpTo}
 use Rattle.trace_replay.proofs.program.end_long.Goals as goal
 
 pub returns-then-is_err-clause-ends : goal.returns-then-is_err-clause-ends
 returns-then-is_err-clause-ends g c before text so_far =
     let cut = cut_of c.flush.result _ _ (search rules) (flushed _ _ _ c.flush.result c.flush.ensures.writes before text so_far) in
-    let rose : Rose (g.K.Sink.faults c.args.sink.now) (g.K.Sink.faults c.flush.new.sink) = search rules in
-    ([], inl refl, front_wordless before _ text cut, rose)
+    ([], inl refl, front_wordless before _ text cut)
 
 pub returns-in-Ok-true-clause-ends : goal.returns-in-Ok-true-clause-ends
 returns-in-Ok-true-clause-ends g c before text so_far =
     let whole = whole_of c.flush.result _ _ (search rules) (flushed _ _ _ c.flush.result c.flush.ensures.writes before text so_far) in
     let gathered : HasWrittenUpTo before (g.K.Sink.written c.flush.new.sink) (text ++ long_text) c.push_text.new.self = rw (c.push_text.ensures, c.flush.ensures.empty) (gathers_more before _ text [] long_text whole) in
-    let later : Rose (g.K.Sink.faults c.flush.new.sink) (g.K.Sink.faults c.finish.new.sink) → Rose (g.K.Sink.faults c.args.sink.now) (g.K.Sink.faults c.finish.new.sink) = λ rose. omega (arith, rose, c.flush.ensures.cause.later) in
     let more = rw c.in-Ok-true.field-0-test at c.in-Ok-true.ensures.more in
-    last_long before _ text _ _ _ _ c.finish.result (more_of _ c.has_more.new.self _ c.has_more.ensures.text more)
-    (rose_since _ _ later (ends_wordless before _ (text ++ long_text) c.finish.result _ _ (c.finish.ensures.ends before (text ++ long_text) gathered)))
+    last_long before _ text _ _ c.finish.result (more_of _ c.has_more.new.self.held _ c.has_more.ensures.text more) (c.has_more.new.self.held, c.has_more.ensures.text)
+    (ends_wordless before _ (text ++ long_text) c.finish.result _ (c.finish.ensures.ends before (text ++ long_text) gathered))
+
+pub returns-in-Ok-true-clause-source_faults : goal.returns-in-Ok-true-clause-source_faults
+returns-in-Ok-true-clause-source_faults g c =
+    let same = c.in-Ok-true.ensures.cause.given in
+    source_ended _ _ c.finish.result LongTrace same same (c.finish.ensures.ends _ _ (nothing_yet _ c.push_text.new.self))
+
+pub returns-in-Ok-true-clause-sink_faults : goal.returns-in-Ok-true-clause-sink_faults
+returns-in-Ok-true-clause-sink_faults g c =
+    let none : g.K.Sink.faults c.flush.new.sink ≡ g.K.Sink.faults c.args.sink.now = search rules in
+    subst (λ (n : ℕ). SinkEnds n (g.K.Sink.faults c.finish.new.sink) c.finish.result) none
+    (sink_ended _ _ c.finish.result LongTrace (λ same. same) (c.finish.ensures.ends _ _ (nothing_yet _ c.push_text.new.self)))
+
+pub returns-in-Err-clause-ends : goal.returns-in-Err-clause-ends
+returns-in-Err-clause-ends g c before text so_far =
+    let all = up_to_end before _ text _ refl (whole_of c.flush.result _ _ (search rules) (flushed _ _ _ c.flush.result c.flush.ensures.writes before text so_far)) in
+    let none : c.has_more.new.self.held ≡ [] = ap (λ (r : ReaderState). r.held) c.in-Err.ensures.same ∙ c.in-Err.ensures.asked in
+    (all, record { held = c.has_more.new.self.held; within = subst IsWithinLine (sym none) within-nil; size = rw none (omega arith); follows = c.has_more.ensures.text })

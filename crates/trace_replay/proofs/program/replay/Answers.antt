@@ -1,14 +1,21 @@
-use Rattle.std.proofs.Common.{◌≡◌, None, refl, arith}
+use Rattle.std.proofs.Common.{◌≡◌, ◌<◌, ◌≤◌, ℕ, None, refl, sym, ap, subst, ◌∙◌, arith}
+use Rattle.std.proofs.lemmas.Bool.{false≢true}
+use Rattle.trace_text.specs.Lines.{ReaderState}
 use Rattle.flat_unit.specs.Print.{print}
-use Rattle.hpb_outside.specs.Faults.{Rose}
-use Rattle.trace_replay.proofs.Runs.{ran_begins, ran_more, rose_since, ends_done, ends_unread, ends_bad, ends_last, ends_unwritten, last_since}
+use Rattle.std.specs.Io.KnownBytes.{prepend_known}
+use Rattle.trace_replay.specs.Run.{CountsFault, SinkEnds, SourceEnds}
+use Rattle.trace_replay.specs.declared.status.Status.TheVariants.{Done, BadLine}
+use Rattle.trace_replay.proofs.Runs.{ran_begins, ran_more, ends_done, ends_unread, ends_bad, ends_last, ends_unwritten, sink_ended, source_ended}
+use Rattle.trace_replay.proofs.Transcripts.{ends_in_source}
+use Rattle.trace_replay.proofs.Written.{keeps_same}
 use Rattle.trace_replay.proofs.program.replay.Goals as goal
 
 pub loop-number-init : goal.loop-number-init
 loop-number-init g c = record {
-  ran = ran_begins c.args.device.now _ _ _ c.requires.begun c.requires.some_page c.requires.fresh;
-  source_later = omega arith;
-  sink_later = omega arith;
+  ran = ran_begins c.args.device.now _ _ _ c.requires.begun c.requires.uncounted c.requires.erased c.requires.some_page c.requires.fresh;
+  at_end = λ ended. absurd (false≢true (sym (ap (λ (r : ReaderState). r.ended) c.requires.unread) ∙ ended));
+  source_same = refl;
+  sink_same = refl;
 }
 
 pub loop-number-preserved : goal.loop-number-preserved
@@ -16,53 +23,92 @@ loop-number-preserved g c =
     let ran = c.loop-number.invariant.ran in
     let turn = c.in-Served.ensures.turn c.args.device.now _ ran.moment ran.shows.0 ran.shows.1 in
     record {
-      ran = ran_more c.args.device.now c.loop-number.device c.take_turn.new.device _ _ _ _ _ _ _ _ c.loop-number.number _ ran turn.0 turn.1 turn.2 turn.3 turn.4 turn.5 (omega arith);
-      source_later = omega (arith, c.loop-number.invariant.source_later, c.take_turn.ensures.source_later);
-      sink_later = omega (arith, c.loop-number.invariant.sink_later, c.take_turn.ensures.sink_later);
+      ran = ran_more c.args.device.now c.loop-number.device c.take_turn.new.device _ _ _ _ _ _ _ _ c.loop-number.number _ ran turn.0 turn.1 turn.2 turn.3 turn.4 turn.5 turn.6 (omega arith);
+      at_end = c.take_turn.ensures.at_end;
+      source_same = c.in-Served.ensures.source_faults ∙ c.loop-number.invariant.source_same;
+      sink_same = c.in-Served.ensures.sink_faults ∙ c.loop-number.invariant.sink_same;
     }
 
 pub returns-in-Ended-clause-run : goal.returns-in-Ended-clause-run
 returns-in-Ended-clause-run g c =
     let ran = c.loop-number.invariant.ran in
     let turn = c.in-Ended.ensures.turn c.args.device.now _ ran.moment ran.shows.0 ran.shows.1 in
-    let later : Rose (g.K.Sink.faults c.take_turn.new.sink) (g.K.Sink.faults c.finish.new.sink) → Rose (g.K.Sink.faults c.args.sink.now) (g.K.Sink.faults c.finish.new.sink) =
-    λ rose. omega (arith, rose, c.loop-number.invariant.sink_later, c.take_turn.ensures.sink_later) in
-    ends_done _ _ _ _ _ _ _ _ _ _ c.loop-number.number _ ran (c.loop-number.device, ran.shows.0, turn.1) c.finish.result turn.0
-    (rose_since _ _ later (c.finish.ensures.ends _ (print ran.moment.events) turn.2))
+    let few : c.loop-number.number ≤ 1000000 = omega (arith, c.loop-number-test.true) in
+    ends_done _ _ _ _ _ _ _ _ c.loop-number.number _ ran (c.loop-number.device, ran.shows.0, turn.1) c.finish.result few (ends_in_source _ _ _ turn.0)
+    (c.finish.ensures.ends _ (print ran.moment.events) turn.2)
+
+pub returns-in-Ended-clause-source_faults : goal.returns-in-Ended-clause-source_faults
+returns-in-Ended-clause-source_faults g c =
+    let ran = c.loop-number.invariant.ran in
+    let turn = c.in-Ended.ensures.turn c.args.device.now _ ran.moment ran.shows.0 ran.shows.1 in
+    let same = c.in-Ended.ensures.source_faults ∙ c.loop-number.invariant.source_same in
+    source_ended _ _ c.finish.result Done same same (c.finish.ensures.ends _ (print ran.moment.events) turn.2)
+
+pub returns-in-Ended-clause-sink_faults : goal.returns-in-Ended-clause-sink_faults
+returns-in-Ended-clause-sink_faults g c =
+    let ran = c.loop-number.invariant.ran in
+    let turn = c.in-Ended.ensures.turn c.args.device.now _ ran.moment ran.shows.0 ran.shows.1 in
+    let same = c.in-Ended.ensures.sink_faults ∙ c.loop-number.invariant.sink_same in
+    subst (λ (n : ℕ). SinkEnds n (g.K.Sink.faults c.finish.new.sink) c.finish.result) same
+    (sink_ended _ _ c.finish.result Done (λ none. none) (c.finish.ensures.ends _ (print ran.moment.events) turn.2))
 
 pub returns-in-Unread-clause-run : goal.returns-in-Unread-clause-run
 returns-in-Unread-clause-run g c =
     let ran = c.loop-number.invariant.ran in
     let turn = c.in-Unread.ensures.turn c.args.device.now _ ran.moment ran.shows.0 ran.shows.1 in
-    let later : Rose (g.K.Sink.faults c.take_turn.new.sink) (g.K.Sink.faults c.finish-in-Unread.new.sink) → Rose (g.K.Sink.faults c.args.sink.now) (g.K.Sink.faults c.finish-in-Unread.new.sink) =
-    λ rose. omega (arith, rose, c.loop-number.invariant.sink_later, c.take_turn.ensures.sink_later) in
-    let source : Rose (g.S.Source.faults c.args.source.now) (g.S.Source.faults c.take_turn.new.source) = omega (arith, c.in-Unread.ensures.unread refl, c.loop-number.invariant.source_later) in
-    ends_unread _ _ _ _ _ _ _ _ _ _ c.loop-number.number _ ran (c.loop-number.device, ran.shows.0, turn.0) c.finish-in-Unread.result source
-    (rose_since _ _ later (c.finish-in-Unread.ensures.ends _ (print ran.moment.events) turn.1))
+    let few : c.loop-number.number ≤ 1000000 = omega (arith, c.loop-number-test.true) in
+    let held = c.in-Unread.ensures.unread refl in
+    ends_unread _ _ _ _ _ _ _ _ c.loop-number.number _ ran (c.loop-number.device, ran.shows.0, turn.1) few
+    (record { held = c.take_turn.new.buffers.reader.held; within = held.0; size = held.1; follows = turn.0 }) turn.2
+
+pub returns-in-Unread-clause-source_faults : goal.returns-in-Unread-clause-source_faults
+returns-in-Unread-clause-source_faults g c =
+    subst (λ (n : ℕ). CountsFault n (g.S.Source.faults c.take_turn.new.source)) c.loop-number.invariant.source_same c.in-Unread.ensures.source_faults
 
 pub returns-in-Unwritten-clause-run : goal.returns-in-Unwritten-clause-run
 returns-in-Unwritten-clause-run g c =
     let ran = c.loop-number.invariant.ran in
     let turn = c.in-Unwritten.ensures.turn c.args.device.now _ ran.moment ran.shows.0 ran.shows.1 in
-    let rose : Rose (g.K.Sink.faults c.args.sink.now) (g.K.Sink.faults c.take_turn.new.sink) = omega (arith, c.in-Unwritten.ensures.unwritten refl, c.loop-number.invariant.sink_later) in
-    ends_unwritten _ _ _ _ None _ _ (Unit {0}) _ 0 c.loop-number.number _ ran c.args.device.now c.take_turn.new.device turn (c.take_turn.new.device, turn.standing, refl) rose
+    ends_unwritten _ _ _ _ None _ _ 1000000 c.loop-number.number _ ran c.args.device.now c.take_turn.new.device (omega (arith, c.loop-number-test.true)) turn (c.take_turn.new.device, turn.standing, refl)
+
+pub returns-in-Unwritten-clause-sink_faults : goal.returns-in-Unwritten-clause-sink_faults
+returns-in-Unwritten-clause-sink_faults g c =
+    subst (λ (n : ℕ). CountsFault n (g.K.Sink.faults c.take_turn.new.sink)) c.loop-number.invariant.sink_same c.in-Unwritten.ensures.sink_faults
 
 pub returns-in-Bad-clause-run : goal.returns-in-Bad-clause-run
 returns-in-Bad-clause-run g c =
     let ran = c.loop-number.invariant.ran in
     let turn = c.in-Bad.ensures.turn c.args.device.now _ ran.moment ran.shows.0 ran.shows.1 in
-    let later : Rose (g.K.Sink.faults c.take_turn.new.sink) (g.K.Sink.faults c.refuse_line.new.sink) → Rose (g.K.Sink.faults c.args.sink.now) (g.K.Sink.faults c.refuse_line.new.sink) =
-    λ rose. omega (arith, rose, c.loop-number.invariant.sink_later, c.take_turn.ensures.sink_later) in
-    ends_bad _ _ _ _ _ _ _ _ _ _ c.loop-number.number _ ran (c.loop-number.device, ran.shows.0, turn.1) c.refuse_line.result _ (omega arith) turn.0
-    (rose_since _ _ later (c.refuse_line.ensures.ends _ (print ran.moment.events) turn.2))
+    let few : c.loop-number.number < 1000000 = omega (arith, c.loop-number-test.true) in
+    ends_bad _ _ _ _ _ _ _ _ c.loop-number.number _ ran (c.loop-number.device, ran.shows.0, turn.1) c.refuse_line.result _ _ (omega arith) few turn.0
+    (c.take_turn.new.buffers.reader.held, keeps_same _) (c.refuse_line.ensures.ends _ (print ran.moment.events) turn.2)
+
+pub returns-in-Bad-clause-source_faults : goal.returns-in-Bad-clause-source_faults
+returns-in-Bad-clause-source_faults g c =
+    let ran = c.loop-number.invariant.ran in
+    let turn = c.in-Bad.ensures.turn c.args.device.now _ ran.moment ran.shows.0 ran.shows.1 in
+    let same = c.in-Bad.ensures.source_faults ∙ c.loop-number.invariant.source_same in
+    source_ended _ _ c.refuse_line.result (BadLine _) same same (c.refuse_line.ensures.ends _ (print ran.moment.events) turn.2)
+
+pub returns-in-Bad-clause-sink_faults : goal.returns-in-Bad-clause-sink_faults
+returns-in-Bad-clause-sink_faults g c =
+    let ran = c.loop-number.invariant.ran in
+    let turn = c.in-Bad.ensures.turn c.args.device.now _ ran.moment ran.shows.0 ran.shows.1 in
+    let same = c.in-Bad.ensures.sink_faults ∙ c.loop-number.invariant.sink_same in
+    subst (λ (n : ℕ). SinkEnds n (g.K.Sink.faults c.refuse_line.new.sink) c.refuse_line.result) same
+    (sink_ended _ _ c.refuse_line.result (BadLine _) (λ none. none) (c.refuse_line.ensures.ends _ (print ran.moment.events) turn.2))
 
 pub returns-clause-run : goal.returns-clause-run
 returns-clause-run g c =
     let ran = c.loop-number.invariant.ran in
     let all : c.loop-number.number ≡ 1000000 = omega (arith, c.loop-number-test.false, c.loop-number.auto.number-end) in
-    let source : Rose (g.S.Source.faults c.loop-number.source) (g.S.Source.faults c.end_long.new.source) → Rose (g.S.Source.faults c.args.source.now) (g.S.Source.faults c.end_long.new.source) =
-    λ rose. omega (arith, rose, c.loop-number.invariant.source_later) in
-    let sink : Rose (g.K.Sink.faults c.loop-number.sink) (g.K.Sink.faults c.end_long.new.sink) → Rose (g.K.Sink.faults c.args.sink.now) (g.K.Sink.faults c.end_long.new.sink) =
-    λ rose. omega (arith, rose, c.loop-number.invariant.sink_later) in
-    ends_last _ _ _ _ _ _ _ _ _ _ c.loop-number.number _ ran (c.loop-number.device, ran.shows.0, refl) c.end_long.result all
-    (last_since _ _ _ _ _ _ _ _ _ c.end_long.result source sink (c.end_long.ensures.ends _ (print ran.moment.events) ran.shows.1))
+    ends_last _ _ _ _ _ _ _ _ c.loop-number.number _ ran (c.loop-number.device, ran.shows.0, refl) c.end_long.result all
+    (c.end_long.ensures.ends _ (print ran.moment.events) ran.shows.1)
+
+pub returns-clause-source_faults : goal.returns-clause-source_faults
+returns-clause-source_faults g c =
+    subst (λ (n : ℕ). SourceEnds n (g.S.Source.faults c.end_long.new.source) c.end_long.result) c.loop-number.invariant.source_same c.end_long.ensures.source_faults
+
+pub returns-clause-sink_faults : goal.returns-clause-sink_faults
+returns-clause-sink_faults g c =
+    subst (λ (n : ℕ). SinkEnds n (g.K.Sink.faults c.end_long.new.sink) c.end_long.result) c.loop-number.invariant.sink_same c.end_long.ensures.sink_faults

@@ -1,5 +1,6 @@
-use Rattle.std.proofs.Common.{◌≤◌}
-use Rattle.std.specs.Io.KnownBytes.{prepend_known}
+use Rattle.std.proofs.Common.{◌≡◌}
+use Rattle.std.specs.Prelude.{IsTrue}
+use Rattle.std.specs.Io.KnownBytes.{IsAtEnd, prepend_known}
 use Rattle.hpb_device.specs.Standing.{sizes_of}
 use Rattle.trace_replay.specs.Run.{Ran}
 use Rattle.trace_replay.proofs.Runs.{StandsAndPrinted}
@@ -7,8 +8,9 @@ use Rattle.trace_replay.proofs.program.replay.Given as goal
 
 abbrev pub invariant-loop-number : goal.invariant-loop-number
 invariant-loop-number g l = record {
-  ran : Ran (sizes_of l.fn.device) (prepend_known l.fn.buffers.reader (g.S.Source.left l.fn.source)) (prepend_known l.buffers.reader (g.S.Source.left l.source)) l.number
+  ran : Ran (sizes_of l.fn.device) (prepend_known l.fn.buffers.reader.held (g.S.Source.left l.fn.source)) (prepend_known l.buffers.reader.held (g.S.Source.left l.source)) l.number
       (StandsAndPrinted l.fn.device l.device (g.K.Sink.written l.fn.sink) (g.K.Sink.written l.sink) l.buffers.output);
-  source_later : g.S.Source.faults l.fn.source ≤ g.S.Source.faults l.source;
-  sink_later : g.K.Sink.faults l.fn.sink ≤ g.K.Sink.faults l.sink;
+  at_end : IsTrue l.buffers.reader.ended → IsAtEnd (g.S.Source.left l.source);
+  source_same : g.S.Source.faults l.source ≡ g.S.Source.faults l.fn.source;
+  sink_same : g.K.Sink.faults l.sink ≡ g.K.Sink.faults l.fn.sink;
 }

@@ -1,4 +1,5 @@
 use Rattle.std.proofs.Common.{◌∙◌, ap, refl, sym}
+use Rattle.trace_text.specs.Lines.{ReaderState}
 use Rattle.region_state.specs.declared.shape.Shape.{Shape}
 use Rattle.trace_replay.specs.Words.{named_unit}
 use Rattle.trace_replay.proofs.Transcripts.{IsFresh, names_chip, names_no_chip, other_chip, refused_geometry, run_of_chip, same_chip}
@@ -6,7 +7,7 @@ use Rattle.trace_replay.proofs.program.run_replay.Goals as goal
 
 pub returns-then-ne-clause-run : goal.returns-then-ne-clause-run
 returns-then-ne-clause-run g c words replays chip unit =
-    refused_geometry words _ _ _ _ _ _ _ _ _ _ c.refused.result.status replays
+    refused_geometry words _ _ _ _ _ _ _ _ c.refused.result.status replays
     (λ (is, limits, serves). other_chip _ _ _ c.ne.ensures c.if-ne.true (c.geometry.ensures ∙ (is ∙ sym chip)))
     (refl, ap g.F.Flash.pages c.refused.ensures.flash) c.refused.ensures.refused
 
@@ -23,11 +24,11 @@ returns-clause-run g c words replays chip unit =
       geometry_is = c.in-Ok.ensures.geometry;
       faults_are = c.in-Ok.ensures.faults;
     } in
-    run_of_chip words geometry c.in-Ok.device c.replay-status.new.device (g.F.Flash.pages c.args.flash) _ _ _ _ _ _ _ _ _ _ _ _ _ c.replay-status.result (replays, named) fresh c.in-Ok-new.ensures.reader c.into_flash-2.ensures.pages c.into_flash-2.ensures.faults c.replay-status.ensures.run
+    run_of_chip words geometry c.in-Ok.device c.replay-status.new.device (g.F.Flash.pages c.args.flash) _ _ _ _ _ _ _ _ _ _ c.replay-status.result (replays, named) fresh (ap (λ (r : ReaderState). r.held) c.in-Ok-new.ensures.reader) c.into_flash-2.ensures.pages c.into_flash-2.ensures.faults c.replay-status.ensures.run
 
 pub returns-in-Err-default-Geometry-clause-run : goal.returns-in-Err-default-Geometry-clause-run
 returns-in-Err-default-Geometry-clause-run g c words replays chip unit =
     let none = rw c.in-Err-default-Geometry.field-0-1-is at c.in-Err-default-Geometry.ensures.refused in
-    refused_geometry words _ _ _ _ _ _ _ _ _ _ c.refused-in-Err-default-Geometry.result.status replays
+    refused_geometry words _ _ _ _ _ _ _ _ c.refused-in-Err-default-Geometry.result.status replays
     (names_no_chip words _ c.args.named.unit unit none)
-    (refl, ap g.F.Flash.pages c.refused-in-Err-default-Geometry.ensures.flash ∙ c.in-Err-default-Geometry.ensures.pages_back) c.refused-in-Err-default-Geometry.ensures.refused
+    (refl, ap g.F.Flash.pages c.refused-in-Err-default-Geometry.ensures.flash ∙ ap g.F.Flash.pages c.in-Err-default-Geometry.ensures.given_back) c.refused-in-Err-default-Geometry.ensures.refused

@@ -1,9 +1,9 @@
-use Rattle.std.proofs.Common.{◌≤◌, List, ℕ, Option}
+use Rattle.std.proofs.Common.{◌≡◌, List, ℕ, Option}
 use Rattle.flat_unit.specs.Print.{print}
 use Rattle.flat_unit.specs.Replays.{Progress}
 use Rattle.hpb_device.specs.State.{DeviceState, steps_left}
 use Rattle.trace_replay.specs.Moments.{Standing}
-use Rattle.trace_replay.specs.Writes.{HasWrittenUpTo}
+use Rattle.trace_replay.specs.Writes.{Grows, HasWrittenUpTo}
 use Rattle.trace_replay.proofs.Standing.{Draining}
 use Rattle.trace_replay.proofs.replay.drain.Given as goal
 
@@ -11,7 +11,8 @@ abbrev pub invariant-steps : goal.invariant-steps
 invariant-steps g l = record {
   drains : (start : DeviceState) (before : Option (List ℕ)) (p : Progress) → Standing start l.fn.device p → HasWrittenUpTo before (g.K.Sink.written l.fn.sink) (print p.events) l.fn.output
       → Draining start l.device before (g.K.Sink.written l.sink) l.output p;
-  later : g.K.Sink.faults l.fn.sink ≤ g.K.Sink.faults l.sink;
+  grows : Grows (g.K.Sink.written l.fn.sink) (g.K.Sink.written l.sink);
+  none : g.K.Sink.faults l.sink ≡ g.K.Sink.faults l.fn.sink;
 }
 
 abbrev pub decreases-steps : goal.decreases-steps

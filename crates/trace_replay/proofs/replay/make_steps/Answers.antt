@@ -1,8 +1,9 @@
-use Rattle.std.proofs.Common.{◌≡◌, ◌+◌, Bool, true, false, not, refl, sym, arith, add-one}
+use Rattle.std.proofs.Common.{◌≡◌, ◌+◌, Bool, true, false, not, refl, sym, ◌∙◌, arith, add-one}
 use Rattle.std.proofs.lemmas.Bool.{false≢true}
 use Rattle.std.proofs.lemmas.Result.{err_from_is_err_and}
 use Rattle.flat_unit.specs.Print.{print}
 use Rattle.trace_replay.proofs.Standing.{stepping_of, made_begins, made_written, made_goes_on, made_rests, made_is_cut, made_ends}
+use Rattle.trace_replay.proofs.Written.{grows_more, grows_none, keeps_grows}
 use Rattle.trace_replay.proofs.replay.make_steps.Goals.{then-not-stepped, else-not-stepped}
 use Rattle.trace_replay.proofs.replay.make_steps.Goals as goal
 
@@ -17,7 +18,8 @@ one_of false is_not = absurd (false≢true (sym is_not))
 pub loop-step-init : goal.loop-step-init
 loop-step-init g c = record {
   makes = λ start before p at printed. made_begins start c.args.device.now before _ _ p at printed;
-  later = omega arith;
+  grows = grows_none _;
+  none = refl;
 }
 
 pub loop-step-preserved : goal.loop-step-preserved
@@ -26,14 +28,15 @@ loop-step-preserved g c = record {
       let so_far = c.loop-step.invariant.makes start before p at printed in
       let written = made_written start c.loop-step.device before _ _ _ _ p c.loop-step._step so_far (c.in_ok-make_room.ensures.text before (print so_far.moment.events) so_far.printed) in
       elim c.if-not-stepped.branch [
-        | then-not-stepped w ↦ let step = stepping_of c.loop-step.device c.step-stepped.new.self c.step-stepped.result c.step-stepped.new.out c.step-stepped.ensures.stands
-            (λ rests. not_both c.step-stepped.result.idle w.if-not-stepped.true (c.step-stepped.ensures.idle.1 rests)) c.step-stepped.ensures.idle.0 c.step-stepped.ensures.steps c.step-stepped.ensures.fewer c.step-stepped.ensures.shape in
-            rw w.output-is (made_goes_on start c.loop-step.device c.step-stepped.new.self before _ _ _ p c.step-stepped.result c.step-stepped.new.out c.loop-step._step (c.loop-step._step + 1) (rw add-one refl) step w.push_step.ensures written)
+        | then-not-stepped w ↦ let step = stepping_of c.loop-step.device c.step-stepped.new.self c.step-stepped.result c.step-stepped.new.out c.step-stepped.ensures.stands c.step-stepped.ensures.entries c.step-stepped.ensures.listings
+            (λ rests. not_both c.step-stepped.result.idle w.if-not-stepped.true (c.step-stepped.ensures.idle.1 rests)) c.step-stepped.ensures.idle.0 c.step-stepped.ensures.steps c.step-stepped.ensures.fewer c.step-stepped.ensures.shape w.push_step.ensures.bytes in
+            rw w.output-is (made_goes_on start c.loop-step.device c.step-stepped.new.self before _ _ _ p c.step-stepped.result c.step-stepped.new.out c.loop-step._step (c.loop-step._step + 1) (rw add-one refl) step w.push_step.ensures.text written)
         | else-not-stepped w ↦ let idle = one_of c.step-stepped.result.idle w.if-not-stepped.false in
             rw (w.output-is, c.step-stepped.ensures.unchanged idle)
             (made_rests start c.loop-step.device before _ _ p c.loop-step._step (c.loop-step._step + 1) (rw add-one refl) (c.step-stepped.ensures.idle.0 idle) written)
       ];
-  later = omega (arith, c.loop-step.invariant.later, c.make_room.ensures.cause.later);
+  grows = grows_more _ _ _ c.loop-step.invariant.grows (keeps_grows _ _ _ _ c.make_room.result c.make_room.ensures.text);
+  none = c.in_ok-make_room.ensures.cause.given ∙ c.loop-step.invariant.none;
 }
 
 pub returns-in_err-make_room-clause-serves : goal.returns-in_err-make_room-clause-serves
@@ -46,3 +49,6 @@ pub returns-clause-serves : goal.returns-clause-serves
 returns-clause-serves g c start before p at printed =
     let all : c.loop-step._step ≡ c.args.count = omega (arith, c.loop-step-test.false, c.loop-step.auto._step-end) in
     rw (← all) (made_ends start c.loop-step.device before _ _ p c.loop-step._step (c.loop-step.invariant.makes start before p at printed))
+
+pub returns-in_err-make_room-clause-grows : goal.returns-in_err-make_room-clause-grows
+returns-in_err-make_room-clause-grows g c = grows_more _ _ _ c.loop-step.invariant.grows (keeps_grows _ _ _ _ c.make_room.result c.make_room.ensures.text)

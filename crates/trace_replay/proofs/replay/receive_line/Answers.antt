@@ -1,9 +1,10 @@
-use Rattle.std.proofs.Common.{◌≡◌, ◌+◌, ◌≤◌, length, refl, rules, sym, ◌∙◌, ap, arith, length-append}
+use Rattle.std.proofs.Common.{◌≡◌, ℕ, List, subst, ◌+◌, ◌≤◌, length, refl, rules, sym, ◌∙◌, ap, arith, length-append}
+use Rattle.hex.specs.Hex.{IsBytes}
 use Rattle.flat_unit.specs.Print.{print, line_of}
 use Rattle.flat_unit.specs.declared.event.Event.TheVariants.{Host}
 use Rattle.hpb_device.specs.declared.device.Sent.TheVariants.{Nothing, Upiu as UpiuSent}
 use Rattle.trace_text.proofs.Lengths.{length-Host}
-use Rattle.trace_replay.proofs.Written.{cut_of, whole_of}
+use Rattle.trace_replay.proofs.Written.{cut_of, keeps_grows, whole_of}
 use Rattle.trace_replay.proofs.Standing.{Received, received_leads}
 use Rattle.trace_replay.proofs.replay.receive_line.Goals as goal
 
@@ -18,7 +19,8 @@ pub push_upiu-requires-in-Upiu : goal.push_upiu-requires-in-Upiu
 push_upiu-requires-in-Upiu g c =
     let room : length c.make_room.new.output + 139520 ≤ 262144 = search rules in
     let line = length-Host c.args.bytes.now in
-    let now : length c.push_upiu.new.self ≡ length c.make_room.new.output + length (line_of (Host c.args.bytes.now)) = ap length c.push_upiu.ensures ∙ length-append c.make_room.new.output (line_of (Host c.args.bytes.now)) in
+    let now : length c.push_upiu.new.self ≡ length c.make_room.new.output + length (line_of (Host c.args.bytes.now)) = ap length c.push_upiu.ensures.text
+    ∙ length-append c.make_room.new.output (line_of (Host c.args.bytes.now)) in
     omega (arith, room, line, now, c.requires, c.bytes.ensures.fits)
 
 pub returns-in-Upiu-clause-turn : goal.returns-in-Upiu-clause-turn
@@ -29,11 +31,16 @@ returns-in-Upiu-clause-turn g c start before p at printed =
       store = c.receive-sent.ensures.store;
       shape = c.receive-sent.ensures.shape;
       receives = c.receive-sent.ensures.receives;
+      entries = c.receive-sent.ensures.entries;
+      listings = c.receive-sent.ensures.listings;
+      bytes_are = λ i. omega (arith, c.type_inv.bytes i);
+      few = c.requires;
+      room = λ sends. (subst IsBytes c.bytes.ensures.value c.push_upiu-in-Upiu.ensures.bytes, subst (λ (l : List ℕ). length l ≤ 4128) c.bytes.ensures.value c.bytes.ensures.fits);
     } in
     let whole = whole_of c.make_room.result _ _ (search rules) (c.make_room.ensures.text before (print p.events) printed) in (
       tt,
       received_leads start c.args.device.now c.receive-sent.new.self before _ _ c.push_upiu.new.self c.push_upiu-in-Upiu.new.self c.args.bytes.now c.receive-sent.new.out c.receive-sent.result p
-          at got whole c.push_upiu.ensures (λ sends. search rules) (λ none. absurd (upiu_not_nothing (sym c.in-Upiu.is ∙ none))),
+          at got whole c.push_upiu.ensures.text (λ sends. search rules) (λ none. absurd (upiu_not_nothing (sym c.in-Upiu.is ∙ none))),
     )
 
 pub returns-in_default-clause-turn : goal.returns-in_default-clause-turn
@@ -44,9 +51,23 @@ returns-in_default-clause-turn g c start before p at printed =
       store = c.receive-sent.ensures.store;
       shape = c.receive-sent.ensures.shape;
       receives = c.receive-sent.ensures.receives;
+      entries = c.receive-sent.ensures.entries;
+      listings = c.receive-sent.ensures.listings;
+      bytes_are = λ i. omega (arith, c.type_inv.bytes i);
+      few = c.requires;
+      room = λ sends. absurd (c.in_default.not-Upiu sends);
     } in
     let whole = whole_of c.make_room.result _ _ (search rules) (c.make_room.ensures.text before (print p.events) printed) in (
       tt,
       received_leads start c.args.device.now c.receive-sent.new.self before _ _ c.push_upiu.new.self c.push_upiu.new.self c.args.bytes.now c.receive-sent.new.out c.receive-sent.result p
-          at got whole c.push_upiu.ensures (λ sends. absurd (c.in_default.not-Upiu sends)) (λ none. refl),
+          at got whole c.push_upiu.ensures.text (λ sends. absurd (c.in_default.not-Upiu sends)) (λ none. refl),
     )
+
+pub returns-then-is_err-clause-grows : goal.returns-then-is_err-clause-grows
+returns-then-is_err-clause-grows g c = keeps_grows _ _ _ _ c.make_room.result c.make_room.ensures.text
+
+pub returns-in-Upiu-clause-grows : goal.returns-in-Upiu-clause-grows
+returns-in-Upiu-clause-grows g c = keeps_grows _ _ _ _ c.make_room.result c.make_room.ensures.text
+
+pub returns-in_default-clause-grows : goal.returns-in_default-clause-grows
+returns-in_default-clause-grows g c = keeps_grows _ _ _ _ c.make_room.result c.make_room.ensures.text

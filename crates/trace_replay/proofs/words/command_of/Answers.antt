@@ -1,25 +1,11 @@
 use Rattle.std.proofs.Common.{List, ℕ, ◌∷◌, ◌-◌, codes, length, drop, map, take, sym, ◌∙◌, ap}
 use Rattle.std.specs.Prelude.{string_bytes}
-use Rattle.trace_replay.specs.Options.{cut_shape}
-use Rattle.trace_replay.proofs.Options.{none_left, one_first, replay_named, replay_refused, word_is}
+use Rattle.trace_replay.proofs.Options.{none_left, one_first, word_is}
 use Rattle.trace_replay.proofs.words.command_of.Goals as goal
-
-pub returns-in_err-given : goal.returns-in_err-given
-returns-in_err-given c =
-    let words = one_first string_bytes c.args.words.now c.command-item.result c.in-len1-up.len_at_least c.command-item.is in
-    let word = word_is (string_bytes c.command-item.result) (codes "replay") c.as_str.result.now c.eq.result c.as_str.ensures.value c.eq.ensures c.if-eq.true in
-    rw c.from_residual.ensures (replay_refused _ _ (words ∙ ap (λ (w : List ℕ). w ∷ map string_bytes (take (length c.args.words.now - 1) (drop 1 c.args.words.now))) word) (sym c.read_options.ensures ∙ c.in_err-given.was))
-
-pub returns-then-eq : goal.returns-then-eq
-returns-then-eq c =
-    let words = one_first string_bytes c.args.words.now c.command-item.result c.in-len1-up.len_at_least c.command-item.is in
-    let word = word_is (string_bytes c.command-item.result) (codes "replay") c.as_str.result.now c.eq.result c.as_str.ensures.value c.eq.ensures c.if-eq.true in
-    let named = replay_named _ _ c.in_ok-given.given (words ∙ ap (λ (w : List ℕ). w ∷ map string_bytes (take (length c.args.words.now - 1) (drop 1 c.args.words.now))) word) (sym c.read_options.ensures ∙ c.in_ok-given.was) in
-    rw c.named.ensures (named.0, named.1, ap cut_shape named.2)
 
 pub returns-then-is_empty : goal.returns-then-is_empty
 returns-then-is_empty c =
     let words = one_first string_bytes c.args.words.now c.command-item.result c.in-len1-up.len_at_least c.command-item.is in
-    let word = word_is (string_bytes c.command-item.result) (codes "show") c.as_str-2.result.now c.eq-2.result c.as_str-2.ensures.value c.eq-2.ensures c.if-eq-2.true in
+    let word = word_is (string_bytes c.command-item.result) (codes "show") c.as_str.result.now c.eq.result c.as_str.ensures.value c.eq.ensures c.if-eq.true in
     words ∙ ap (λ (w : List ℕ). w ∷ map string_bytes (take (length c.args.words.now - 1) (drop 1 c.args.words.now))) word
     ∙ ap (λ (ws : List (List ℕ)). codes "show" ∷ ws) (none_left string_bytes (take (length c.args.words.now - 1) (drop 1 c.args.words.now)) (sym c.is_empty.ensures ∙ c.if-is_empty.true))

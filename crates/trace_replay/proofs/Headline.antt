@@ -1,5 +1,5 @@
 -- The sentences of the headline follow from what a run promises.
-use Rattle.std.proofs.Common.{◌≡◌, ◌⊎◌, ℕ, Bool, List, [], ◌∷◌, ◌++◌, Option, Some, None, refl, sym, subst, inl, inr}
+use Rattle.std.proofs.Common.{◌≡◌, ◌⊎◌, ℕ, ◌+◌, Bool, List, [], ◌∷◌, ◌++◌, Option, Some, None, refl, sym, subst, inl, inr}
 use Rattle.std.proofs.lemmas.List.{append-nil}
 use Rattle.std.specs.Io.KnownBytes.{Appends}
 use Rattle.hpb_outside.specs.Faults.{Rose}
@@ -11,10 +11,10 @@ use Rattle.flat_unit.specs.Replays.{Progress}
 use Rattle.flat_unit.specs.Sizes.{Sizes}
 use Rattle.flat_unit.proofs.Reading.{reads_allowed, reads_end_well}
 use Rattle.trace_replay.specs.ByText.{is_shown_line, is_trace_line, status_of}
-use Rattle.trace_replay.specs.Headline.{DrainsAll, EndsByText, IsWritten, Tells}
-use Rattle.trace_replay.specs.Run.{IsPlanned, ProgramIs, RunIs, SinkEnds, SourceEnds}
+use Rattle.trace_replay.specs.Headline.{AreLastWords, DrainsAll, EndsByText, IsWritten, Tells}
+use Rattle.trace_replay.specs.Run.{IsCutShort, IsPlanned, ProgramIs, RunIs, SinkEnds, SourceEnds, bad_line_text, long_text}
 use Rattle.trace_replay.specs.Showing.{ShowIs, ShowProgramIs}
-use Rattle.trace_replay.specs.Transcript.{IsTranscript, sizes_on, zero_unit}
+use Rattle.trace_replay.specs.Transcript.{IsPlain, IsTranscript, sizes_on, zero_unit}
 use Rattle.trace_replay.specs.Words.{named_unit}
 use Rattle.trace_replay.specs.declared.status.Status.{Status}
 use Rattle.trace_replay.specs.declared.status.Status.TheVariants.{Done, BadLine, ReadFault, WriteFault, LongTrace, Usage, Memory, Geometry as BadGeometry, ChipFault, BadImage, BadCapture}
@@ -24,25 +24,38 @@ use Rattle.trace_replay.proofs.Written.{appends_nothing}
 worded : (a b : Option (List ℕ)) (text : List ℕ) → Appends a b text → Appends a b (text ++ [])
 worded a b text = subst (Appends a b) (sym (append-nil text))
 
--- a fact of all events that a run may have
+-- what a run had to write when its sink failed ends with last words
+last_words : (s : Sizes) (mid : Option (List ℕ)) (limit n : ℕ) (p last : Progress) (words : List ℕ) → IsCutShort s mid limit n p last words → AreLastWords words
+last_words s mid limit n p last words (inl (_, _, _, is)) = inl is
+last_words s mid limit n p last words (inr (inl (_, _, is, _))) = inr (inl (n + 1, is))
+last_words s mid limit n p last words (inr (inr (_, _, is, _))) = inr (inr is)
+
+-- a fact of all events that a run may have, which are plain
 tells_run : (P : History → Type 0) (s : Sizes) (good : Progress → Type 0) (left left_now w w_now : Option (List ℕ)) (limit : ℕ) (status : Status) → ((p : Progress) → good p → P p.events)
+    → ((p : Progress) → good p → IsPlain p.events)
     → RunIs s good left left_now w w_now limit status → Tells status w w_now P
-tells_run P s good left left_now w w_now limit Done leads (mid, n, ran, few, ends) =
-    record { events = ran.moment.events; words = []; holds = leads ran.moment ran.shows.0; written = worded w w_now (print ran.moment.events) ran.shows.1 }
-tells_run P s good left left_now w w_now limit (BadLine number) leads (mid, behind, n, ran, few, is, bad, ahead) =
-    record { events = ran.moment.events; words = _; holds = leads ran.moment ran.shows.0; written = ran.shows.1 }
-tells_run P s good left left_now w w_now limit ReadFault leads (mid, n, ran, few, stops) =
-    record { events = ran.moment.events; words = []; holds = leads ran.moment ran.shows.0; written = worded w w_now (print ran.moment.events) ran.shows.1 }
-tells_run P s good left left_now w w_now limit LongTrace leads (mid, ran, more, ahead) =
-    record { events = ran.moment.events; words = _; holds = leads ran.moment ran.shows.0; written = ran.shows.1 }
-tells_run P s good left left_now w w_now limit WriteFault leads (mid, n, last, words, ran, well, cut) =
-    record { events = last.events; words = words; holds = leads last well; written = cut }
-tells_run P s good left left_now w w_now limit Usage leads none = absurd none
-tells_run P s good left left_now w w_now limit Memory leads none = absurd none
-tells_run P s good left left_now w w_now limit BadGeometry leads none = absurd none
-tells_run P s good left left_now w w_now limit ChipFault leads none = absurd none
-tells_run P s good left left_now w w_now limit (BadImage fault) leads none = absurd none
-tells_run P s good left left_now w w_now limit (BadCapture offset fault) leads none = absurd none
+tells_run P s good left left_now w w_now limit Done leads plain (mid, n, ran, few, ends) =
+    record { events = ran.moment.events; words = []; plain = plain ran.moment ran.shows.0; last = inl refl; holds = leads ran.moment ran.shows.0; written = worded w w_now (print ran.moment.events) ran.shows.1 }
+tells_run P s good left left_now w w_now limit (BadLine number) leads plain (mid, behind, n, ran, few, is, bad, ahead) = record {
+  events = ran.moment.events;
+  words = bad_line_text number;
+  plain = plain ran.moment ran.shows.0;
+  last = inr (inl (number, refl));
+  holds = leads ran.moment ran.shows.0;
+  written = ran.shows.1;
+}
+tells_run P s good left left_now w w_now limit ReadFault leads plain (mid, n, ran, few, stops) =
+    record { events = ran.moment.events; words = []; plain = plain ran.moment ran.shows.0; last = inl refl; holds = leads ran.moment ran.shows.0; written = worded w w_now (print ran.moment.events) ran.shows.1 }
+tells_run P s good left left_now w w_now limit LongTrace leads plain (mid, ran, more, ahead) =
+    record { events = ran.moment.events; words = long_text; plain = plain ran.moment ran.shows.0; last = inr (inr refl); holds = leads ran.moment ran.shows.0; written = ran.shows.1 }
+tells_run P s good left left_now w w_now limit WriteFault leads plain (mid, n, last, words, ran, well, cut) =
+    record { events = last.events; words = words; plain = plain last well; last = last_words s mid limit n ran.moment last words ran.shows; holds = leads last well; written = cut }
+tells_run P s good left left_now w w_now limit Usage leads plain none = absurd none
+tells_run P s good left left_now w w_now limit Memory leads plain none = absurd none
+tells_run P s good left left_now w w_now limit BadGeometry leads plain none = absurd none
+tells_run P s good left left_now w w_now limit ChipFault leads plain none = absurd none
+tells_run P s good left left_now w w_now limit (BadImage fault) leads plain none = absurd none
+tells_run P s good left left_now w w_now limit (BadCapture offset fault) leads plain none = absurd none
 
 -- the same of a program whose words and chip are as planned
 planned_run : (words : List (List ℕ)) (geometry : Geometry) (good : Progress → Type 0) (same : Type 0) (left left_now w w_now : Option (List ℕ)) (limit : ℕ) (status : Status)
@@ -66,23 +79,27 @@ no_text : (known : Option (List ℕ)) → Appends known known (print [] ++ [])
 unfolding print
 no_text known = appends_nothing known
 
+-- no events are plain
+none_plain : IsPlain []
+none_plain = record { bytes = tt; short = tt; unmoved = refl; alive = tt; hintless = tt }
+
 tells_program : (P : History → Type 0) (words : List (List ℕ)) (geometry : Geometry) (good : Progress → Type 0) (same : Type 0) (left left_now w w_now : Option (List ℕ)) (limit : ℕ) (status : Status)
-    → P [] → ((p : Progress) → good p → P p.events)
+    → P [] → ((p : Progress) → good p → P p.events) → ((p : Progress) → good p → IsPlain p.events)
     → IsPlanned words geometry → ProgramIs words geometry good same left left_now w w_now limit status → Tells status w w_now P
-tells_program P words geometry good same left left_now w w_now limit status none leads planned program = by_run (planned_run words geometry good same left left_now w w_now limit status planned program)
+tells_program P words geometry good same left left_now w w_now limit status none leads plain planned program = by_run (planned_run words geometry good same left left_now w w_now limit status planned program)
   where
     by_run : ((status ≡ Memory) × (w_now ≡ w)) ⊎ RunIs (sizes_on (named_unit words) geometry) good left left_now w w_now limit status → Tells status w w_now P
     by_run (inl (is, nothing)) = subst (λ (s : Status). Tells s w w_now P) (sym is)
-        (record { events = []; words = []; holds = none; written = subst (λ (now : Option (List ℕ)). Appends w now (print [] ++ [])) (sym nothing) (no_text w) })
-    by_run (inr run) = tells_run P (sizes_on (named_unit words) geometry) good left left_now w w_now limit status leads run
+        (record { events = []; words = []; plain = none_plain; last = inl refl; holds = none; written = subst (λ (now : Option (List ℕ)). Appends w now (print [] ++ [])) (sym nothing) (no_text w) })
+    by_run (inr run) = tells_run P (sizes_on (named_unit words) geometry) good left left_now w w_now limit status leads plain run
 
 module _ (words : List (List ℕ)) (geometry : Geometry) (faults faults_back : ℕ) (back : List Rattle.flash_pages.specs.Chip.Page) (same : Type 0) (left left_now w w_now : Option (List ℕ)) (status : Status) (planned : IsPlanned words geometry)
     (program : ProgramIs words geometry (λ p. IsTranscript (named_unit words) geometry faults faults_back back p.events) same left left_now w w_now 1000000 status) where
   pub tells_allowed : Tells status w w_now (ReadsAllowed (sizes_on (named_unit words) geometry) (zero_unit (named_unit words)))
-  tells_allowed = tells_program _ words geometry _ same left left_now w w_now 1000000 status tt (λ p is. reads_allowed _ _ p.events is.sound.so_far) planned program
+  tells_allowed = tells_program _ words geometry _ same left left_now w w_now 1000000 status tt (λ p is. reads_allowed _ _ p.events is.sound.so_far) (λ p is. is.plain) planned program
 
   pub tells_good : Tells status w w_now (ReadsEndGood (sizes_on (named_unit words) geometry))
-  tells_good = tells_program _ words geometry _ same left left_now w w_now 1000000 status tt (λ p is. reads_end_well _ _ 0 p.events is.sound.so_far is.caused) planned program
+  tells_good = tells_program _ words geometry _ same left left_now w w_now 1000000 status tt (λ p is. reads_end_well _ _ 0 p.events is.sound.so_far is.caused) (λ p is. is.plain) planned program
 
 -- a run that took all lines drains its reads
 pub drains_all : (words : List (List ℕ)) (geometry : Geometry) (good : Progress → Type 0) (same : Type 0) (left left_now w w_now : Option (List ℕ)) (limit : ℕ) (status : Status)

@@ -1,5 +1,5 @@
 -- The sentences of the headline, of the events whose text a run has written.
-use Rattle.std.specs.Prelude.{◌≡◌, ◌⊎◌, ℕ, Bool, List, ◌++◌, map, Option, Some}
+use Rattle.std.specs.Prelude.{◌≡◌, ◌⊎◌, ℕ, Bool, List, [], ◌++◌, map, Option, Some}
 use Rattle.flash_pages.specs.declared.chip.Geometry.{Geometry}
 use Rattle.hpb_outside.specs.Faults.{Rose}
 use Rattle.flat_unit.specs.History.{History}
@@ -12,7 +12,8 @@ use Rattle.std.specs.Io.KnownBytes.{Appends}
 use Rattle.trace_text.specs.Grammar.{trace_line}
 use Rattle.trace_text.specs.Lines.{EndsAt, WhereTold}
 use Rattle.trace_replay.specs.ByText.{status_of}
-use Rattle.trace_replay.specs.Run.{TakesLines}
+use Rattle.trace_replay.specs.Run.{TakesLines, bad_line_text, long_text}
+use Rattle.trace_replay.specs.Transcript.{IsPlain}
 use Rattle.trace_replay.specs.Writes.{AppendsFront}
 use Rattle.trace_replay.specs.declared.status.Status.{Status}
 use Rattle.trace_replay.specs.declared.status.Status.TheVariants.{Memory, WriteFault}
@@ -22,10 +23,17 @@ abbrev pub IsWritten : Status → (old new : Option (List ℕ)) → (text : List
 IsWritten WriteFault old new text = AppendsFront old new text
 IsWritten _ old new text = Appends old new text
 
--- the text of events with this fact was written, and then the last words
+-- the last words of a run: none, the number of a line, or that the text is long
+abbrev pub AreLastWords : List ℕ → Type 0
+AreLastWords words = (words ≡ []) ⊎ ((number : ℕ) × (words ≡ bad_line_text number)) ⊎ (words ≡ long_text)
+
+-- The text of plain events with this fact was written, and then the last words. No line of an event begins as those do, so
+-- the text tells which events they are.
 pub record Tells (status : Status) (old new : Option (List ℕ)) (fact : History → Type 0) : Type 0 where
   pub events : History
   pub words : List ℕ
+  pub plain : IsPlain events
+  pub last : AreLastWords words
   pub holds : fact events
   pub written : IsWritten status old new (print events ++ words)
 

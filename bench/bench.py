@@ -70,7 +70,7 @@ class Mix:
         self.random = random.Random(options.seed)
         self.options = options
         self.units = (options.blocks - 3) * options.pages
-        self.pages_left = options.blocks * options.pages
+        self.pages_left = (options.blocks - 1) * options.pages
         self.written = []
         self.tag = 0
         self.transcript = 0
@@ -92,7 +92,7 @@ class Mix:
         return read_lines(self.tag, lba, count)
 
     def lines(self, megabytes):
-        """Lines until the transcript has this size. Once the chip is full, there are only reads."""
+        """Lines until the transcript has this size. Once a write would need the collector, there are only reads."""
         while self.transcript < megabytes * 1_000_000:
             self.tag = (self.tag + 1) % 256
             may_write = self.pages_left >= self.options.write_blocks

@@ -6,10 +6,11 @@ use Rattle.std.proofs.lemmas.Bool.{cases_eq, eqb-true, eq-eqb, ne_eqb}
 use Rattle.flash_pages.specs.declared.chip.Spare.{Spare}
 use Rattle.flash_pages.specs.Chip.{Page, Erased, Written, page_at}
 use Rattle.flash_pages.specs.Place.{Place}
-use Rattle.flash_pages.specs.Unit.{place_of, same_place, rank_for, current, next_seq}
+use Rattle.flash_pages.specs.Unit.{place_of, same_place, rank_for, current}
 use Rattle.flash_pages.proofs.Greatest.{IsGreatestAt-position}
 use Rattle.flash_pages.proofs.Places.{same_place-true, cases_place}
-use Rattle.flash_pages.proofs.Programming.{rank-at, page_at-erased, current-written, current-inside, current-programmed, current-others}
+use Rattle.flash_pages.proofs.Programming.{rank-at, page_at-erased, current-written, current-inside, current-others}
+use Rattle.collector_laws.specs.CollectStep.{place_named}
 use Rattle.flash_store.specs.Entries.{IsHonoured, names_place, has_current, is_valid_page, flags_after}
 
 differ : true ≡ false → ⊥
@@ -31,7 +32,7 @@ tells : (n : ℕ) (o : Option ℕ) → option_map_or (nat_eq n) o false ≡ true
 tells n None e = cc
 tells n (Some m) e = ap Some (sym (eqb-true n m e))
 
-tells_not : (n : ℕ) (o : Option ℕ) → o ≢ Some n → option_map_or (nat_eq n) o false ≡ false
+pub tells_not : (n : ℕ) (o : Option ℕ) → o ≢ Some n → option_map_or (nat_eq n) o false ≡ false
 tells_not n None other = refl
 tells_not n (Some m) other = ne_eqb n m (λ e. other (ap Some (sym e)))
 
@@ -56,6 +57,11 @@ valid-named chip p n (Written bytes spare) is named =
     ap (λ q. option_map_or (nat_eq n) (current chip q) false) (same_place-true (place_of spare) p named)
     ∙ ap (λ o. option_map_or (nat_eq n) o false) is
     ∙ eq-eqb n n refl
+
+-- a valid page is the current one of the place that it names
+pub has_current-some : (chip : List Page) (n : ℕ) (page : Page) → has_current chip n page ≡ true → current chip (place_named page) ≡ Some n
+has_current-some chip n Erased valid = cc
+has_current-some chip n (Written bytes spare) valid = tells n (current chip (place_of spare)) valid
 
 pub valid-current : (chip : List Page) (p : Place) (n : ℕ) → current chip p ≡ Some n → is_valid_page chip n ≡ true
 valid-current chip p n is = valid-named chip p n (page_at chip n) is (named-current chip p n is)
@@ -86,8 +92,8 @@ false-replicate (suc count) (suc n) = false-replicate count n
 pub valid-erased : (count n : ℕ) → get_or (replicate count false) n false ≡ is_valid_page (replicate count Erased) n
 valid-erased count n = false-replicate count n ∙ sym (ap (has_current (replicate count Erased) n) (page_at-erased count n))
 
-module _ (chip : List Page) (flags : List Bool) (page : ℕ) (bytes : List ℕ) (spare : Spare) (whole : length flags ≡ length chip) (each : (n : ℕ)
-    → get_or flags n false ≡ is_valid_page chip n) (inside : page < length chip) (erased : page_at chip page ≡ Erased) (next : spare.seq ≡ next_seq chip) where
+module _ (chip : List Page) (flags : List Bool) (page : ℕ) (bytes : List ℕ) (spare : Spare) (whole : length flags ≡ length chip) (each : (n : ℕ) → get_or flags n false ≡ is_valid_page chip n)
+    (inside : page < length chip) (erased : page_at chip page ≡ Erased) (newest : current (set chip page (Written bytes spare)) (place_of spare) ≡ Some page) where
   abbrev programmed : List Page
   programmed = set chip page (Written bytes spare)
 
@@ -141,7 +147,7 @@ module _ (chip : List Page) (flags : List Bool) (page : ℕ) (bytes : List ℕ) 
       ]
     where
       now : place_of spare ≡ place_of s → current programmed (place_of s) ≡ Some page
-      now same = ap (current programmed) (sym same) ∙ current-programmed chip page bytes spare inside next
+      now same = ap (current programmed) (sym same) ∙ newest
 
       replaced : place_of spare ≡ place_of s → get_or after n false ≡ false
       replaced same =
@@ -160,7 +166,7 @@ module _ (chip : List Page) (flags : List Bool) (page : ℕ) (bytes : List ℕ) 
             ap (λ k. get_or after k false) same ∙ flag-page
             ∙ sym (ap (is_valid_page programmed) same
             ∙ ap (has_current programmed page) (get_or-set_same chip page (Written bytes spare) Erased inside)
-            ∙ ap (λ o. option_map_or (nat_eq page) o false) (current-programmed chip page bytes spare inside next)
+            ∙ ap (λ o. option_map_or (nat_eq page) o false) (newest)
             ∙ eq-eqb page page refl)
         | inr apart ↦
             valid-other n apart (page_at chip n) refl

@@ -1,8 +1,8 @@
 -- What the definitions say of a history with one more event, or with the events of one call.
-use Rattle.std.proofs.Common.{Option, ◌≡◌, ℕ, ◌+◌, ◌^◌, ◌<◌, List, [], ◌∷◌, ◌++◌, length, Bool, not, ◌&&◌, nat_le, Some, None, true, false, inr, arith, refl, sym, ◌∙◌, ap, subst, drop}
+use Rattle.std.proofs.Common.{Option, IsTrue, ◌≡◌, ℕ, ◌+◌, ◌^◌, ◌<◌, ◌≤◌, List, [], ◌∷◌, ◌++◌, length, Bool, not, ◌&&◌, nat_le, Some, None, true, false, inl, inr, arith, refl, sym, ◌∙◌, ap, subst, drop}
 use Rattle.std.proofs.lemmas.List.{append_assoc, append-nil}
 use Rattle.std.proofs.lemmas.Bool.Decides.{nat_tests}
-use Rattle.std.specs.Prelude.{flat_map, if◌then◌else◌}
+use Rattle.std.specs.Prelude.{flat_map, is_some, if◌then◌else◌}
 use Rattle.std.specs.List.{AllByRecursion}
 use Rattle.byteorder.specs.Numbers.{big_number-reads_back}
 use Rattle.upiu_wire.specs.declared.kind.Kind.{Kind}
@@ -13,7 +13,7 @@ use Rattle.upiu_wire.specs.declared.fault.WireFault.{WireFault}
 use Rattle.upiu_wire.specs.Written.{transfer_upiu, data_upiu, response_upiu, reject_upiu}
 use Rattle.upiu_wire.proofs.Reading.{upiu_at-upiu, wire_fault_of-upiu}
 use Rattle.upiu_wire.proofs.Writing.{reads-upiu_out}
-use Rattle.flat_unit.specs.Causes.{FailuresAre, failures}
+use Rattle.flat_unit.specs.Causes.{FailuresAre, failures, sense_code}
 use Rattle.flat_unit.specs.declared.event.Event.{Event}
 use Rattle.flat_unit.specs.declared.event.Event.TheVariants.{Host, Device, Failed}
 use Rattle.flat_unit.specs.History.{History, ◌▹◌, followed_by}
@@ -28,7 +28,7 @@ use Rattle.flat_unit.specs.Queue.{after_kept, after_reply, on_after, tasks_chang
 use Rattle.flat_unit.specs.Contents.{Block}
 use Rattle.flat_unit.specs.Sound.{owed, reply_events, Comes, MayCome, SoundSoFar, Sound}
 use Rattle.flat_unit.specs.Print.{print, line_of}
-use Rattle.flat_unit.specs.Replays.{Progress, Group, LineTo, Replays, StepTo, stepped, is_due, tasks_at}
+use Rattle.flat_unit.specs.Replays.{Progress, Group, LineTo, Replays, StepTo, stepped, is_due, may_be_silent, tasks_at}
 
 -- a UPIU that is written is read again
 pub upiu_at-out : (v : Upiu) → IsConsistent v → upiu_at (upiu_out v) ≡ v
@@ -184,6 +184,35 @@ pub due_at_once : (s : Sizes) (p : Progress) → s.pages ≡ 0 → at_rest (task
 due_at_once s p none going =
     let looked : nat_le s.pages p.quiet ≡ true = grind (arith, nat_tests) in
     ap (λ (b : Bool). not b && nat_le s.pages p.quiet) going ∙ looked
+
+-- a step that isn't due may look at the chip, and sends nothing but that such a look failed
+pub early_step : (s : Sizes) (p : Progress) (g : Group) → is_due s p ≡ false → g.moved ≡ None
+    → ((bytes : List ℕ) → g.sent ≡ Some bytes → IsTrue (is_some g.failed) × (sense_code bytes ≡ Some 0x44)) → StepTo s p (stepped s p g)
+early_step s p g early unmoved sends = record { group = g; is_group = inr unmoved; timely = rw early sends; leads = refl }
+
+-- a device that has looked at fewer pages than it has to isn't due
+pub due_later : (s : Sizes) (p : Progress) → p.quiet < s.pages → is_due s p ≡ false
+due_later s p fewer =
+    let more : nat_le s.pages p.quiet ≡ false = grind (arith, nat_tests) in
+    ap (λ (b : Bool). not (at_rest (tasks_at s p)) && b) more ∙ and_false (not (at_rest (tasks_at s p)))
+  where
+    and_false : (b : Bool) → (b && false) ≡ false
+    and_false true = refl
+    and_false false = refl
+
+-- and it is due once it has, where its tasks can go on
+pub due_now : (s : Sizes) (p : Progress) → s.pages ≤ p.quiet → at_rest (tasks_at s p) ≡ false → is_due s p ≡ true
+due_now s p whole going =
+    let looked : nat_le s.pages p.quiet ≡ true = grind (arith, nat_tests) in
+    ap (λ (b : Bool). not b && nat_le s.pages p.quiet) going ∙ looked
+
+-- a step that is due and sends nothing programs or collects, or tries an entry for the first time
+pub silent_step : (s : Sizes) (p : Progress) (g : Group) → is_due s p ≡ true → g.moved ≡ None → IsTrue (may_be_silent s p) → StepTo s p (stepped s p g)
+silent_step s p g due unmoved may = record { group = g; is_group = inr unmoved; timely = rw due (λ _. may); leads = refl }
+
+-- a step that is due may move a page and do nothing else, where it may be silent
+pub moving_step : (s : Sizes) (p : Progress) (g : Group) → is_due s p ≡ true → g.failed ≡ None → g.sent ≡ None → IsTrue (may_be_silent s p) → StepTo s p (stepped s p g)
+moving_step s p g due whole silent may = record { group = g; is_group = inl (whole, silent); timely = rw due (λ _. may); leads = refl }
 
 -- a step where nothing can go on
 pub idle_step : (s : Sizes) (p : Progress) (g : Group) → at_rest (tasks_at s p) ≡ true → g.moved ≡ None → g.sent ≡ None → StepTo s p (stepped s p g)

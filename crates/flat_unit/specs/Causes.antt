@@ -1,4 +1,5 @@
--- Why a task ends with a sense: the event that stands directly before it, or the state of the chip (this project's own).
+-- Why a task ends with a sense: the event that stands directly before it, or the state of the chip (this project's
+-- own).
 use Rattle.std.specs.Prelude.{◌≡◌, ◌⊎◌, ℕ, ◌+◌, ◌^◌, ◌≤◌, List, [], ◌∷◌, min, Option, Some, None, if◌then◌else◌, ◌==◌, ◌-◌}
 use Rattle.flash_pages.specs.declared.chip.ChipOp.TheVariants.{Read}
 use Rattle.hpb_sense.specs.Sense.{fixed_at}
@@ -29,9 +30,9 @@ JustFailed _ = ⊥
 abbrev pub JustFailedToRead : History → Type 0
 JustFailedToRead e = (earlier : History) × (e ≡ Failed Read ∷ earlier)
 
--- a write may find no page or no number any more, where the first chip's next number was this
+-- a write may find no number any more, where the first chip's next number was this: sequence numbers end at 2^62
 abbrev pub MayBeFull : Sizes → ℕ → History → Type 0
-MayBeFull s next e = s.full_at ≤ next + moves e + blocks_come s e
+MayBeFull s next e = 2 ^ 62 ≤ next + moves e + blocks_come s e
 
 -- an ending with this code has its cause; foreign says that the chip was none of this device's
 pub record HasCauseFor (s : Sizes) (foreign : Type 0) (next : ℕ) (e : History) (code : ℕ) : Type 0 where

@@ -1,9 +1,10 @@
--- What a flat unit may hold at a place after some events (reads and writes of SBC; what a write that was cut leaves is this
--- project's own). A unit is the list of the blocks of all logical units. There are no pages, entries, regions or collection here.
+-- What a flat unit may hold at a place after some events (reads and writes of SBC; what a write that was cut leaves is
+-- this project's own). A unit is the list of the blocks of all logical units. There are no pages, entries, regions or
+-- collection here.
 use Rattle.std.specs.Prelude.{ℕ, ◌+◌, ◌-◌, ◌*◌, ◌/◌, Bool, false, ◌&&◌, List, [], ◌∷◌, ◌++◌, length, filter, map, fold, slice_range, slice_index_or, Option, Some, None, if◌then◌else◌, ◌==◌, nat_lt, nat_le}
 use Rattle.flash_pages.specs.Place.{Place, index_of}
 use Rattle.hpb_cdb.specs.declared.cdb.Cdb.{Cdb}
-use Rattle.hpb_cdb.specs.declared.cdb.Cdb.TheVariants.{Read, Write, HpbRead}
+use Rattle.hpb_cdb.specs.declared.cdb.Cdb.TheVariants.{Write}
 use Rattle.upiu_wire.specs.declared.kind.Kind.{Kind}
 use Rattle.upiu_wire.specs.declared.kind.Kind.TheVariants.{Response, DataIn}
 use Rattle.upiu_wire.specs.Upiu.{Upiu, upiu_at}
@@ -14,6 +15,7 @@ use Rattle.flat_unit.specs.Queue.{tasks_after}
 use Rattle.flat_unit.specs.Reply.{has_tag}
 use Rattle.flat_unit.specs.Sizes.{Sizes}
 use Rattle.flat_unit.specs.Task.{Task}
+use Rattle.flat_unit.specs.Work.{Work, ReadsBlocks, work_of}
 
 abbrev pub Block : Type 0
 Block = List ℕ
@@ -45,10 +47,12 @@ block_written s task (Write lba n) p =
 block_written s task _ p = None
 
 -- the place whose block a read sends next
+abbrev pub place_by : Sizes → Task → Work → Option Place
+place_by s task (ReadsBlocks lba n) = Some (record { lun = task.lun; lba = lba + task.sent / s.block })
+place_by s task _ = None
+
 abbrev pub next_place : Sizes → Task → Cdb → Option Place
-next_place s task (Read lba n) = Some (record { lun = task.lun; lba = lba + task.sent / s.block })
-next_place s task (HpbRead lba entry n id) = Some (record { lun = task.lun; lba = lba + task.sent / s.block })
-next_place s task _ = None
+next_place s task command = place_by s task (work_of command)
 
 -- a task that leaves, and whether it was answered GOOD
 pub record Leaving : Type 0 where

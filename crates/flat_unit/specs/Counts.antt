@@ -92,7 +92,8 @@ pub record Counts : Type 0 where
   pub moved : ℕ
   pub erased : ℕ
 
--- the counts fit the transcript: the chip has so many pages, so many of them in an erase block, and so many were erased at first
+-- the counts fit the transcript: the chip has so many pages, so many of them in an erase block, and so many were erased
+-- at first
 pub record Counted (s : Sizes) (pages per_block free : ℕ) (e : History) (t : Counts) : Type 0 where
   pub fresh_served : blocks_by_fresh s e ≤ t.entries
   pub entries_had : t.entries ≤ blocks_by_entry s e

@@ -1,5 +1,5 @@
--- The entries that READ BUFFER lists, and what they say (this project's own). An entry is the number of the page that holds a
--- block, and 2 ^ 64 - 1 where none does.
+-- The entries that READ BUFFER lists, and what they say (this project's own). An entry is the number of the page that
+-- holds a block, and 2 ^ 64 - 1 where none does.
 use Rattle.std.specs.Prelude.{◌≡◌, ◌<◌, ◌⊎◌, ◌^◌, ℕ, ◌+◌, ◌-◌, ◌*◌, Bool, false, not, ◌&&◌, ◌||◌, List, [], ◌∷◌, length, slice_range, Option, Some, None, if◌then◌else◌, ◌==◌, nat_le, MatchBool}
 use Rattle.std.specs.List.{flat_map, range_with_len}
 use Rattle.byteorder.specs.Endian.{big_bytes, big_number}
@@ -64,7 +64,8 @@ spoils s on tasks p x = takes_data s on tasks p x
 abbrev pub was_listed : Sizes → History → Place → ℕ → Bool
 was_listed s [] p x = false
 was_listed s (ev ∷ e) p x =
-    is_entry x (listed s (tasks_after s e) ev p) || (not (spoils s (on_after e) (tasks_after s e) p ev) && was_listed s e p x)
+    is_entry x (listed s (tasks_after s e) ev p)
+    || (not (spoils s (on_after e) (tasks_after s e) p ev) && was_listed s e p x)
 
 -- the entry is still the one of the place's page
 abbrev pub is_fresh : Sizes → History → Place → ℕ → Bool

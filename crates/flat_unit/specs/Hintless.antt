@@ -1,9 +1,8 @@
 -- A GOOD RESPONSE that tells the host nothing of its regions (this project's own).
-use Rattle.std.specs.Prelude.{◌≡◌, ℕ, List, [], ◌∷◌}
+use Rattle.std.specs.Prelude.{◌≡◌, [], ◌∷◌}
 use Rattle.upiu_wire.specs.declared.kind.Kind.{Kind}
 use Rattle.upiu_wire.specs.declared.kind.Kind.TheVariants.{Response}
 use Rattle.upiu_wire.specs.Upiu.{Upiu, upiu_at}
-use Rattle.flat_unit.specs.declared.event.Event.{Event}
 use Rattle.flat_unit.specs.declared.event.Event.TheVariants.{Device}
 use Rattle.flat_unit.specs.History.{History}
 

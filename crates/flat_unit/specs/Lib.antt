@@ -3,6 +3,7 @@ pub mod Print
 pub mod Task
 pub mod Trace
 pub mod Sizes
+pub mod Work
 pub mod Command
 pub mod Senses
 pub mod Query

@@ -1,5 +1,5 @@
--- The lists of entries that were prefetched and are kept after some events, and the entry that a block of a read has (this
--- project's own).
+-- The lists of entries that were prefetched and are kept after some events, and the entry that a block of a read has
+-- (this project's own).
 use Rattle.std.specs.Prelude.{ℕ, ◌+◌, ◌*◌, Bool, not, ◌&&◌, List, [], ◌∷◌, length, filter, find, fold, Option, Some, None, if◌then◌else◌, ◌==◌, nat_le, slice_range}
 use Rattle.byteorder.specs.Endian.{big_number}
 use Rattle.hpb_cdb.specs.declared.cdb.Cdb.{Cdb}
@@ -36,9 +36,11 @@ lists_left_by lists l (Prefetch lba id len) =
 lists_left_by lists l (HpbRead lba entry n id) = without_list l.task.lun id lists
 lists_left_by lists l _ = lists
 
+abbrev pub lists_left : List Fetched → List Leaving → List Fetched
+lists_left lists ls = fold (λ (kept : List Fetched) (l : Leaving). lists_left_by kept l l.task.command) lists ls
+
 abbrev pub lists_changed : List Task → List Fetched → Event → List Fetched
-lists_changed tasks lists (Device bytes) =
-    fold (λ (ls : List Fetched) (l : Leaving). lists_left_by ls l l.task.command) lists (answered (upiu_at bytes) (upiu_at bytes).kind tasks)
+lists_changed tasks lists (Device bytes) = lists_left lists (answered (upiu_at bytes) (upiu_at bytes).kind tasks)
 lists_changed tasks lists Reset = []
 lists_changed tasks lists _ = lists
 
@@ -49,7 +51,8 @@ lists_after s (x ∷ e) = lists_changed (tasks_after s e) (lists_after s e) x
 
 -- entry k of a list, where all its 8 bytes are there
 abbrev pub entry_in : List ℕ → ℕ → Option ℕ
-entry_in bytes k = if nat_le (8 * k + 8) (length bytes) then Some (big_number 8 (slice_range bytes (8 * k) (8 * k + 8))) else None
+entry_in bytes k =
+    if nat_le (8 * k + 8) (length bytes) then Some (big_number 8 (slice_range bytes (8 * k) (8 * k + 8))) else None
 
 -- the list of this unit and id, made for this LBA
 abbrev pub is_for_read : ℕ → ℕ → ℕ → Fetched → Bool

@@ -1,5 +1,5 @@
--- What answers a TASK MANAGEMENT REQUEST (JESD220, SAM), and which tasks go. Which functions are served, and the order of the
--- tests, are this project's own.
+-- What answers a TASK MANAGEMENT REQUEST (JESD220, SAM), and which tasks go. Which functions are served, and the order
+-- of the tests, are this project's own.
 use Rattle.std.specs.Prelude.{ℕ, Bool, not, ◌&&◌, ◌||◌, List, map, filter, if◌then◌else◌, ◌==◌, nat_le}
 use Rattle.std.specs.List.{list_any}
 use Rattle.upiu_wire.specs.declared.kind.Kind.TheVariants.{ManageResponse}

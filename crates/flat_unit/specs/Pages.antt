@@ -8,8 +8,8 @@ use Rattle.flat_unit.specs.Stands.{Kept, is_programmed}
 use Rattle.flat_unit.specs.Task.{Task}
 use Rattle.flat_unit.specs.Writes.{covers, is_settled, is_touched}
 
--- the chip has a page of each place where the first chip had one, of each that a write answered GOOD covers, and of each
--- that is programmed for the first task; it has none where the first chip had none and no write took DATA OUT
+-- the chip has a page of each place where the first chip had one, of each that a write answered GOOD covers, and of
+-- each that is programmed for the first task; it has none where the first chip had none and no write took DATA OUT
 pub record HasPages (s : Sizes) (had : Place → Bool) (kept : Kept) (page_of : Place
     → Option ℕ) (e : History) : Type 0 where
   pub there : (p : Place) → IsPlace s.luns s.units p

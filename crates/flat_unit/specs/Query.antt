@@ -1,5 +1,5 @@
--- What answers a QUERY REQUEST (JESD220), and what it does. The two flags of HPB, the order of the tests and the code for each
--- refusal are this project's own.
+-- What answers a QUERY REQUEST (JESD220), and what it does. The two flags of HPB, the order of the tests and the code
+-- for each refusal are this project's own.
 use Rattle.std.specs.Prelude.{ℕ, ◌/◌, ◌%◌, Bool, true, false, not, ◌&&◌, ◌||◌, List, [], ◌∷◌, ◌++◌, replicate, if◌then◌else◌, ◌==◌}
 use Rattle.byteorder.specs.Endian.{big_bytes}
 use Rattle.upiu_wire.specs.declared.kind.Kind.TheVariants.{QueryResponse}
@@ -57,7 +57,8 @@ query_code v = first_code (refusals v)
 -- whether HPB is on after a request that is served
 abbrev pub on_after_query : Bool → Upiu → Bool
 on_after_query on v =
-    if opcode_of v == 0x06 then true else (if opcode_of v == 0x07 then false else (if opcode_of v == 0x08 then not on else on))
+    if opcode_of v == 0x06 then true
+    else (if opcode_of v == 0x07 then false else (if opcode_of v == 0x08 then not on else on))
 
 -- a reset is complete at once, so its flag is always 0
 abbrev pub flag_after : Bool → Upiu → ℕ

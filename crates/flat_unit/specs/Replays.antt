@@ -4,17 +4,17 @@ use Rattle.std.specs.List.{AllByRecursion, list_any}
 use Rattle.flash_pages.specs.declared.chip.ChipOp.{ChipOp}
 use Rattle.flash_pages.specs.Place.{Place}
 use Rattle.hpb_cdb.specs.declared.cdb.Cdb.{Cdb}
-use Rattle.hpb_cdb.specs.declared.cdb.Cdb.TheVariants.{Read, Write, HpbRead, Capacity, ReadBuffer, Prefetch}
 use Rattle.flat_unit.specs.declared.event.Event.{Event}
 use Rattle.flat_unit.specs.declared.event.Event.TheVariants.{Host, Device, Reset, Moved, Failed}
 use Rattle.flat_unit.specs.Causes.{sense_code}
-use Rattle.flat_unit.specs.Command.{is_write, bytes_given}
+use Rattle.flat_unit.specs.Command.{is_write, bytes_given, given_by}
 use Rattle.flat_unit.specs.Counts.{next_entry}
 use Rattle.flat_unit.specs.History.{History, ◌▹◌, followed_by}
 use Rattle.flat_unit.specs.Queue.{on_after, tasks_after, at_rest}
 use Rattle.flat_unit.specs.Sizes.{Sizes}
 use Rattle.flat_unit.specs.Sound.{answers_to}
 use Rattle.flat_unit.specs.Task.{Task}
+use Rattle.flat_unit.specs.Work.{Work, ReadsBlocks, WritesBlocks, TakesList, ListsEntries, TellsCapacity, MovesNothing, work_of}
 use Rattle.flat_unit.specs.Trace.{Line, Upiu, Steps, Collect, Drain, ResetLine, Blank}
 
 -- a run of lines without input that may go on: how many calls of `step` it lacks before its tasks must have ended,
@@ -23,8 +23,8 @@ pub record OpenRun : Type 0 where
   pub lacks : ℕ
   pub has_write : Bool
 
--- how far a replay has come: the events, the step groups without a failed call since the last reset, whether the entry of
--- the next block was tried in vain, and the runs that may go on
+-- how far a replay has come: the events, the step groups without a failed call since the last reset, whether the entry
+-- of the next block was tried in vain, and the runs that may go on
 pub record Progress : Type 0 where
   pub events : History
   pub quiet : ℕ
@@ -110,14 +110,16 @@ StepsTo s zero p now = now ≡ p
 StepsTo s (suc n) p now = (mid : Progress) × StepsTo s n p mid × StepTo s mid now
 
 -- how many steps a command takes at most once it comes first
+abbrev pub bound_by : Sizes → Work → ℕ
+bound_by s (ReadsBlocks lba n) = 2 * n + 1
+bound_by s (WritesBlocks lba n) = 2 * s.erase_block * n + (n + 7) / 8 + 1
+bound_by s (ListsEntries region sub len) = (given_by s (ListsEntries region sub len) + s.block - 1) / s.block + 1
+bound_by s TellsCapacity = 2
+bound_by s (TakesList bytes) = 2
+bound_by s MovesNothing = 1
+
 abbrev pub bound : Sizes → Cdb → ℕ
-bound s (Read lba n) = 2 * n + 1
-bound s (HpbRead lba entry n id) = 2 * n + 1
-bound s (Write lba n) = 2 * s.erase_block * n + (n + 7) / 8 + 1
-bound s (ReadBuffer region sub len) = (bytes_given s (ReadBuffer region sub len) + s.block - 1) / s.block + 1
-bound s Capacity = 2
-bound s (Prefetch lba id len) = 2
-bound s _ = 1
+bound s command = bound_by s (work_of command)
 
 -- so many steps end all tasks that need no more from the host
 abbrev pub enough : Sizes → List Task → ℕ

@@ -3,16 +3,16 @@
 use Rattle.std.specs.Prelude.{◌≡◌, ℕ, ◌-◌, ◌*◌, ◌^◌, ◌<◌, ◌⊎◌, ◌++◌, min, List, [], ◌∷◌, length}
 use Rattle.byteorder.specs.Endian.{big_bytes}
 use Rattle.hpb_cdb.specs.declared.cdb.Cdb.{Cdb}
-use Rattle.hpb_cdb.specs.declared.cdb.Cdb.TheVariants.{Read, Write, HpbRead, Capacity, ReadBuffer}
 use Rattle.hpb_sense.specs.declared.sense.FixedSense.{FixedSense}
 use Rattle.upiu_wire.specs.declared.kind.Kind.TheVariants.{DataIn, ReadyToTransfer}
 use Rattle.upiu_wire.specs.Upiu.{Upiu, upiu_out}
 use Rattle.upiu_wire.specs.Written.{transfer_upiu, data_upiu, response_upiu}
-use Rattle.flat_unit.specs.Command.{bytes_given, bytes_taken, needed}
+use Rattle.flat_unit.specs.Command.{bytes_given, bytes_taken, given_by, needed, taken_by}
 use Rattle.flat_unit.specs.Reply.{check}
 use Rattle.flat_unit.specs.Senses.{read_failed, write_failed, chip_failed, no_number}
 use Rattle.flat_unit.specs.Sizes.{Sizes}
 use Rattle.flat_unit.specs.Task.{Task}
+use Rattle.flat_unit.specs.Work.{Work, ReadsBlocks, WritesBlocks, ListsEntries, TellsCapacity, work_of}
 
 -- DATA IN, READY TO TRANSFER for so many bytes, GOOD with a segment, or CHECK CONDITION with sense
 pub data Answer : Type 0 where
@@ -29,24 +29,32 @@ upiu_of s task (Good segment) = response_upiu task.lun task.tag 0x00 (task.expec
 upiu_of s task (Check sense) = check task.lun task.tag (task.expected - task.sent - length task.come) sense
 
 -- the bytes are the next piece of what the command gives
+abbrev pub IsPieceBy : Sizes → Task → Work → List ℕ → Type 0
+IsPieceBy s task (ReadsBlocks lba n) bytes = length bytes ≡ s.block
+IsPieceBy s task TellsCapacity bytes = bytes ≡ big_bytes 4 (s.units - 1) ++ big_bytes 4 s.block
+IsPieceBy s task (ListsEntries region sub len) bytes =
+    length bytes ≡ min s.block (given_by s (ListsEntries region sub len) - task.sent)
+IsPieceBy s task _ bytes = ⊥
+
 abbrev pub IsPiece : Sizes → Task → Cdb → List ℕ → Type 0
-IsPiece s task (Read lba n) bytes = length bytes ≡ s.block
-IsPiece s task (HpbRead lba entry n id) bytes = length bytes ≡ s.block
-IsPiece s task Capacity bytes = bytes ≡ big_bytes 4 (s.units - 1) ++ big_bytes 4 s.block
-IsPiece s task (ReadBuffer region sub len) bytes = length bytes ≡ min s.block (bytes_given s (ReadBuffer region sub len) - task.sent)
-IsPiece s task _ bytes = ⊥
+IsPiece s task command bytes = IsPieceBy s task (work_of command) bytes
 
 -- how many bytes a command asks for at once
+abbrev pub asked_by : Sizes → Task → Work → ℕ
+asked_by s task (WritesBlocks lba n) = min (8 * s.block) (s.block * n - task.asked)
+asked_by s task work = taken_by s work
+
 abbrev pub asked_at_once : Sizes → Task → Cdb → ℕ
-asked_at_once s task (Write lba n) = min (8 * s.block) (s.block * n - task.asked)
-asked_at_once s task command = bytes_taken s command
+asked_at_once s task command = asked_by s task (work_of command)
 
 -- a command may end with this sense
+abbrev pub MayEndBy : Work → FixedSense → Type 0
+MayEndBy (ReadsBlocks lba n) sense = (sense ≡ read_failed) ⊎ (sense ≡ chip_failed)
+MayEndBy (WritesBlocks lba n) sense = (sense ≡ write_failed) ⊎ ((sense ≡ no_number) ⊎ (sense ≡ chip_failed))
+MayEndBy _ sense = sense ≡ chip_failed
+
 abbrev pub MayEndWith : Cdb → FixedSense → Type 0
-MayEndWith (Read lba n) sense = (sense ≡ read_failed) ⊎ (sense ≡ chip_failed)
-MayEndWith (HpbRead lba entry n id) sense = (sense ≡ read_failed) ⊎ (sense ≡ chip_failed)
-MayEndWith (Write lba n) sense = (sense ≡ write_failed) ⊎ ((sense ≡ no_number) ⊎ (sense ≡ chip_failed))
-MayEndWith _ sense = sense ≡ chip_failed
+MayEndWith command sense = MayEndBy (work_of command) sense
 
 -- the task allows this answer
 abbrev pub Allows : Sizes → Task → Answer → Type 0

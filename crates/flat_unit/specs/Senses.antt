@@ -1,4 +1,5 @@
--- The sense that stands for each event (keys and codes of SPC; which of them stands for which event is this project's own).
+-- The sense that stands for each event (keys and codes of SPC; which of them stands for which event is this project's
+-- own).
 use Rattle.std.specs.Prelude.{ℕ}
 use Rattle.hpb_cdb.specs.declared.fault.CdbFault.{CdbFault}
 use Rattle.hpb_cdb.specs.declared.fault.CdbFault.TheVariants.{Opcode, Field, Range}
@@ -31,7 +32,7 @@ bad_field = sense 0x5 0x24
 abbrev pub no_unit : FixedSense
 no_unit = sense 0x5 0x25
 
--- DATA PROTECT: the chip has no erased page, or no sequence number, for a block any more
+-- DATA PROTECT: there is no sequence number for a block any more
 abbrev pub no_number : FixedSense
 no_number = sense 0x7 0x27
 

@@ -68,8 +68,8 @@ HasProgress s programmed (task ∷ _) = IsProgress s programmed task task.comman
 
 -- Its next sequence number is at least the first one with a number for each page that was moved, each block that was
 -- answered GOOD and each that is programmed. It is at most that with the whole blocks that came, but for those that the
--- first task has and that aren't programmed. Its erased pages are those of the first chip and of each erase block that was
--- erased, less one for each sequence number that was used.
+-- first task has and that aren't programmed. Its erased pages are those of the first chip and of each erase block that
+-- was erased, less one for each sequence number that was used.
 pub record Stands (s : Sizes) (first : First) (kept : Kept) (e : History) : Type 0 where
   pub keeps : tasks_after s e ≡ kept.tasks
   pub switch : on_after e ≡ kept.on

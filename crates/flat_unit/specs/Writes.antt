@@ -81,6 +81,9 @@ is_touched s [] p = false
 is_touched s (x ∷ e) p = takes_data s (on_after e) (tasks_after s e) p x || is_touched s e p
 
 -- a write that covers the place was answered GOOD
+abbrev pub settled_by : Place → Leaving → Bool
+settled_by p l = l.good && covers p l.task
+
 abbrev pub is_settled : Sizes → History → Place → Bool
 is_settled s [] p = false
-is_settled s (x ∷ e) p = list_any (λ (l : Leaving). l.good && covers p l.task) (leaving (tasks_after s e) x) || is_settled s e p
+is_settled s (x ∷ e) p = list_any (settled_by p) (leaving (tasks_after s e) x) || is_settled s e p

@@ -10,7 +10,7 @@ ghost use Rattle.upiu_wire.specs.declared.fault.WireFault.{WireFault};
 ghost use Rattle.flat_unit.specs.declared.event.Event.{Event};
 ghost use Rattle.flat_unit.specs.declared.event.Event.TheVariants.{Device};
 ghost use Rattle.flat_unit.specs.Causes.{Caused};
-ghost use Rattle.flat_unit.specs.Command.{ReadsBlocks, needed};
+ghost use Rattle.flat_unit.specs.Command.{needed};
 ghost use Rattle.flat_unit.specs.Contents.{Block, Shown, candidates, is_among, leaving, offset_in, shown};
 ghost use Rattle.flat_unit.specs.History.{History, ◌▹◌};
 ghost use Rattle.flat_unit.specs.Laws.{NoneCut, ChangesNothing, FirstAlone, HaveRoom, IsRejectedFor, MovedAll, places_from, shown_by_first};
@@ -24,6 +24,7 @@ ghost use Rattle.flat_unit.specs.Sound.{SoundSoFar};
 ghost use Rattle.flat_unit.specs.Task.{Task};
 ghost use Rattle.flat_unit.specs.Tasks.{IsQueue};
 ghost use Rattle.flat_unit.specs.Trace.{Line};
+ghost use Rattle.flat_unit.specs.Work.{ReadsBlocks, work_of};
 
 /// No two kept tasks have one tag, those behind the first have moved nothing, and each is one that the unit has.
 pub fn kept_tasks()
@@ -86,7 +87,7 @@ pub fn good_read_is_in_order()
     ensures { (s : Sizes) (u : List Block) (e : History) (bytes : List ℕ) (task : Task) (lba n : ℕ)
         → 0 < s.block → s.block < 2 ^ 16 → SoundSoFar s u (e ▹ Device bytes)
         → leaving (tasks_after s e) (Device bytes) ≡ record { task = task; good = true } ∷ []
-        → ReadsBlocks task.command lba n
+        → work_of task.command ≡ ReadsBlocks lba n
         → map (λ (w : Shown). w.place) (shown_by_first s e) ≡ places_from task.lun lba n }
 {}
 

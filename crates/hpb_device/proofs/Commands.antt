@@ -3,23 +3,29 @@ use Rattle.std.specs.Prelude.{IsSome, is_some, if◌then◌else◌}
 use Rattle.std.specs.declared.option.Option.{Option}
 use Rattle.std.proofs.lemmas.Bool.{false≢true}
 use Rattle.std.proofs.lemmas.Bool.Decides.{nat_tests}
-use Rattle.std.proofs.Common.{◌≡◌, ◌⊎◌, ◌∙◌, Bool, true, false, not, ◌&&◌, ◌==◌, ◌-◌, nat_lt, min, ℕ, ◌+◌, ◌*◌, ◌/◌, ◌%◌, ◌^◌, ◌<◌, ◌≤◌, List, [], ◌∷◌, drop, Some, None, refl, sym, subst, ap, arith, inl, inr}
+use Rattle.std.proofs.Common.{◌≡◌, ◌⊎◌, ◌∙◌, Bool, true, false, not, ◌&&◌, ◌==◌, ◌-◌, nat_lt, min, ℕ, ◌+◌, ◌*◌, ◌/◌, ◌%◌, ◌^◌, ◌<◌, ◌≤◌, List, [], ◌∷◌, drop, Some, None, refl, subst, ap, arith, inl, inr}
 use Rattle.hpb_outside.specs.Faults.{Rose}
-use Rattle.flash_pages.specs.declared.chip.ChipOp.TheVariants.{Read as ReadCall}
 use Rattle.flash_pages.specs.Place.{Place}
 use Rattle.flash_pages.specs.Unit.{current}
-use Rattle.flash_store.specs.Store.{StoreState}
+use Rattle.flash_store.specs.Store.{StoreState, collecting}
 use Rattle.hpb_cdb.specs.declared.cdb.Cdb.{Cdb}
-use Rattle.hpb_cdb.specs.declared.cdb.Cdb.TheVariants.{TestReady, Read, Write, Capacity, Sync, HpbRead, ReadBuffer, Prefetch, InactOne, InactAll}
+use Rattle.hpb_cdb.specs.declared.cdb.Cdb.TheVariants.{Read, Write, HpbRead}
 use Rattle.hpb_cdb.specs.declared.limits.Limits.{Limits}
 use Rattle.hpb_device.specs.declared.task.Task.{Task}
 use Rattle.upiu_wire.specs.Upiu.{Upiu}
 use Rattle.hpb_device.specs.declared.reply.Reply.{Reply}
 use Rattle.hpb_device.specs.declared.reply.Reply.TheVariants.{Check}
 use Rattle.hpb_device.specs.declared.reply.Cause.TheVariants.{DataNotAsked, ReadFailed}
+use Rattle.hpb_device.specs.declared.advance.FailedCall.TheVariants.{MappedRead}
 use Rattle.hpb_device.specs.Accept.{EndsFirst, IsNextPiece, TakesPiece}
-use Rattle.hpb_device.specs.Task.{WaitsForData, head_of, IsTaskOk, IsServed, HasTried, bytes_given, bytes_taken, steps_of, tries_entry, tries_entry_of}
-use Rattle.hpb_device.specs.Advance.{CallIsDue, Fails, ReadsBlocks, call_of, check, failure_of, first_block, reads_page}
+use Rattle.hpb_device.specs.Left.{steps_of}
+use Rattle.hpb_device.specs.Task.{WaitsForData, head_of, IsTaskOk, IsServed, HasTried, bytes_given, bytes_taken, tries_entry, tries_entry_of}
+use Rattle.hpb_device.specs.Advance.{Fails, ReadsBlocks, check, first_block, reads_page}
+
+-- a command that takes data is a WRITE(10)
+pub is_written : (command : Cdb) (n : ℕ) → n < bytes_taken command → (lba : ℕ) × (k : ℕ) × (command ≡ Write lba k)
+is_written (Write lba k) n more = (lba, k, refl)
+is_written _ n more = absurd (omega arith)
 
 -- a write of so many blocks
 pub record Writes (lim : Limits) (task : Task) (lba n : ℕ) : Type 0 where
@@ -79,18 +85,10 @@ pub reads_looked_up : (old : StoreState) (task : Task) (lba : ℕ) → tries_ent
     → (let p : Place = record { lun = task.lun; lba = lba + task.sent / 4096 } in IsSome (current old.pages p)) → reads_page old task ≡ true
 reads_looked_up old task lba untried first is = rw (untried, first) (some_true _ is)
 
--- a read that was due failed
-fails_by : (old : StoreState) (task : Task) (command : Cdb) → ReadsBlocks command → task.sent < task.given → reads_page old task ≡ true
-    → CallIsDue old task command × (ReadCall ≡ call_of command) × (failure_of command ≡ ReadFailed)
-fails_by old task (Read lba n) is more due = ((more, due), refl, refl)
-fails_by old task (HpbRead lba entry n id) is more due = ((more, due), refl, refl)
-fails_by old task _ is more due = absurd is
-
-pub read_fails : (old new : StoreState) (task : Task) (reply : Reply) → ReadsBlocks task.command → task.sent < task.given → reads_page old task ≡ true
-    → Rose old.faults new.faults → reply ≡ check task ReadFailed → Fails old new task ReadCall reply
-read_fails old new task reply is more due rose answer =
-    let by = fails_by old task task.command is more due in
-    record { due = by.0; cause = rose; call = by.1; answer = answer ∙ sym (ap (check task) by.2) }
+-- a read of a block that was looked up failed
+pub read_fails : (old new : StoreState) (task : Task) (reply : Reply) → ReadsBlocks task.command → task.sent < task.given → tries_entry task ≡ false → reads_page old task ≡ true
+    → Rose old.faults new.faults → collecting new ≡ collecting old → reply ≡ check task ReadFailed → Fails old new task MappedRead reply
+read_fails old new task reply is more untried due rose kept answer = record { due = (is, more, untried, due); cause = rose; left = kept; answer = answer }
 
 -- a command that has an entry to try reads a block, and has sent none
 pub record Tries (lim : Limits) (command : Cdb) (task : Task) : Type 0 where
@@ -142,9 +140,9 @@ block_ok luns lim task ok is more =
       };
     }
 
-pub block_fewer : (luns : ℕ) (lim : Limits) (task : Task) → IsTaskOk luns lim task → ReadsBlocks task.command → task.sent < task.given
-    → steps_of lim (record task { sent = task.sent + 4096; tried = false }) < steps_of lim task
-block_fewer luns lim task ok is more =
+pub block_fewer : (luns : ℕ) (lim : Limits) (task : Task) → IsTaskOk luns lim task → ReadsBlocks task.command → task.sent < task.given → (pages wait : ℕ)
+    → steps_of lim pages wait (record task { sent = task.sent + 4096; tried = false }) < steps_of lim pages wait task
+block_fewer luns lim task ok is more pages wait =
     let r = reads luns lim task ok is in
     let later : ((task.sent + 4096) == 0) ≡ false = grind (arith, nat_tests) in
     let none = no_tries task.command (record task { sent = task.sent + 4096; tried = false }) (ap (λ (b : Bool). b && true) later) in
@@ -170,8 +168,8 @@ missed_ok luns lim task ok is = record {
     untried (HpbRead lba entry n id) none = none
     untried _ none = absurd none
 
-pub missed_fewer : (lim : Limits) (task : Task) → tries_entry task ≡ true → steps_of lim (record task { tried = true }) < steps_of lim task
-missed_fewer lim task is =
+pub missed_fewer : (lim : Limits) (task : Task) → tries_entry task ≡ true → (pages wait : ℕ) → steps_of lim pages wait (record task { tried = true }) < steps_of lim pages wait task
+missed_fewer lim task is pages wait =
     let none = no_tries task.command (record task { tried = true }) (and_false (task.sent == 0)) in
     rw (none, is) (omega arith)
   where

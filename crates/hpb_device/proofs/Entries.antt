@@ -1,5 +1,5 @@
 -- A device's chip honours what the device has listed, after each call.
-use Rattle.std.proofs.Common.{◌≡◌, ◌⊎◌, ℕ, ◌+◌, ◌-◌, ◌*◌, ◌/◌, ◌%◌, ◌^◌, ◌<◌, ◌≤◌, ◌==◌, Bool, true, false, not, ◌&&◌, List, [], ◌∷◌, ◌++◌, length, length-take, map, take, Option, Some, None, refl, sym, ◌∙◌, ap, subst, arith, inl, inr}
+use Rattle.std.proofs.Common.{◌≡◌, ◌⊎◌, ℕ, ◌+◌, ◌-◌, ◌*◌, ◌/◌, ◌%◌, ◌^◌, ◌<◌, ◌≤◌, ◌==◌, Bool, true, false, not, ◌&&◌, List, [], ◌∷◌, ◌++◌, length, length-take, take, Option, Some, None, refl, sym, ◌∙◌, ap, subst, arith, inl, inr}
 use Rattle.std.specs.Prelude.{unwrap_or, if◌then◌else◌}
 use Rattle.std.specs.Bool.{OnTrue}
 use Rattle.std.specs.List.{AllByRecursion}
@@ -11,9 +11,9 @@ use Rattle.flash_pages.specs.Place.{Place, IsPlace}
 use Rattle.flash_pages.specs.Unit.{current, next_seq}
 use Rattle.flash_pages.proofs.Programming.{current-inside, current-others, current-programmed}
 use Rattle.flash_store.specs.Entries.{IsHonoured, entry_for}
-use Rattle.flash_store.specs.Store.{ProgramsBlock}
+use Rattle.collector_laws.specs.Changes.{ProgramsBlock}
 use Rattle.hpb_cdb.specs.declared.cdb.Cdb.{Cdb}
-use Rattle.hpb_cdb.specs.declared.cdb.Cdb.TheVariants.{TestReady, Read, Write, Capacity, Sync, HpbRead, ReadBuffer, Prefetch, InactOne, InactAll}
+use Rattle.hpb_cdb.specs.declared.cdb.Cdb.TheVariants.{Read, Write, HpbRead, ReadBuffer}
 use Rattle.upiu_wire.specs.declared.kind.Kind.TheVariants.{DataIn, ReadyToTransfer}
 use Rattle.upiu_wire.specs.Kind.{kind_of}
 use Rattle.upiu_wire.specs.Upiu.{upiu_at, upiu_out}
@@ -29,10 +29,10 @@ use Rattle.flat_unit.specs.History.{History, ◌▹◌}
 use Rattle.flat_unit.specs.Queue.{on_after, tasks_after}
 use Rattle.flat_unit.specs.Sizes.{Sizes}
 use Rattle.flat_unit.specs.Task.{Task as Waiting}
-use Rattle.flat_unit.proofs.Freshness.{fresh_event, fresh_programmed}
-use Rattle.flat_unit.proofs.Listing.{listed_entry}
-use Rattle.flat_unit.proofs.Paging.{with_page}
-use Rattle.flat_unit.proofs.Steps.{same_place}
+use Rattle.flat_unit.proofs.entries.Fresh.{fresh_event, fresh_programmed}
+use Rattle.flat_unit.proofs.entries.Listed.{listed_entry}
+use Rattle.flat_unit.proofs.entries.Pages.{with_page}
+use Rattle.flat_unit.proofs.standing.OneCall.{same_place}
 use Rattle.hpb_device.specs.declared.reply.Reply.{Reply}
 use Rattle.hpb_device.specs.declared.reply.Reply.TheVariants.{NopIn, Reject, Good, TaskSetFull, Check}
 use Rattle.hpb_device.specs.declared.task.Task.{Task}
@@ -40,24 +40,24 @@ use Rattle.hpb_device.specs.declared.advance.Progress.{Progress}
 use Rattle.hpb_device.specs.declared.advance.Progress.TheVariants.{Sends, Silent, Ended, Failed}
 use Rattle.hpb_device.specs.declared.advance.Transfer.{Transfer}
 use Rattle.hpb_device.specs.declared.advance.Transfer.TheVariants.{LookedUp, ByEntry, EntryList, UnitCapacity, Ready}
-use Rattle.hpb_device.specs.declared.advance.Internal.TheVariants.{Missed, Programmed}
+use Rattle.hpb_device.specs.declared.advance.Internal.TheVariants.{Missed, Programmed, Collected}
 use Rattle.hpb_device.specs.declared.device.Stepped.{Stepped}
-use Rattle.hpb_device.specs.Advance.{Advances, Asks, IsSameStore, Lists, Misses, Programs, ReadsBlocks, SendsBlock, Transfers, capacity_of, entry_given, first_block, first_listed, nth_place}
+use Rattle.hpb_device.specs.Advance.{Advances, Asks, IsSameStore, Lists, Misses, Programs, ReadsBlocks, op_of, SendsBlock, Transfers, capacity_of, entry_given, first_block, first_listed, nth_place}
 use Rattle.hpb_device.specs.Calls.{EndsHead, Keeps, Leaves, TakesData}
 use Rattle.hpb_device.specs.Entries.{EntriesStand, FreshHonoured, IsStale, TriedStale}
-use Rattle.hpb_device.specs.Keeps.{waiting_of}
 use Rattle.hpb_device.specs.Limits.{limits_of}
-use Rattle.hpb_device.specs.Standing.{DeviceStands, group_of, sizes_of}
+use Rattle.hpb_device.specs.Standing.{group_of, sizes_of}
 use Rattle.hpb_device.specs.State.{DeviceState}
 use Rattle.hpb_device.specs.Task.{IsQueue, IsWaiting, bytes_taken}
-use Rattle.hpb_device.proofs.Commands.{reads, tries_of}
-use Rattle.hpb_device.proofs.StepStands.{Turn, head_in, is_written, others_in, sizes_same, tasks_at}
+use Rattle.hpb_device.proofs.Commands.{is_written, reads, tries_of}
+use Rattle.hpb_device.proofs.Chips.{pages_of}
+use Rattle.hpb_device.proofs.Leaving.{IsOfTask}
+use Rattle.hpb_device.proofs.StepStands.{Turn, head_in, others_in, sizes_same, tasks_at}
 use Rattle.flash_store.specs.Store.{StoreState}
 use Rattle.flash_pages.specs.Unit.{block_of}
 use Rattle.hpb_cdb.specs.declared.limits.Limits.{Limits}
 use Rattle.flat_unit.specs.Replays.{events_of}
 use Rattle.flat_unit.specs.History.{followed_by}
-use Rattle.flat_unit.specs.Stands.{First}
 use Rattle.std.specs.Prelude.{slice_range, slice_set}
 use Rattle.hpb_device.specs.Reply.{reply_upiu}
 use Rattle.hpb_device.specs.Advance.{Tells}
@@ -237,7 +237,7 @@ missed_stale s chip e task (HpbRead lba entry n id) keeps lun inside refused = b
 missed_stale s chip e task _ keeps lun inside refused = tt
 
 -- a device with these sizes
-entries_now : (d now : DeviceState) (e : History) → IsSameStore d.store now.store → now.shape ≡ d.shape → FreshHonoured (sizes_of d) now.store.pages e → TriedStale (sizes_of d) e now.tasks
+pub entries_now : (d now : DeviceState) (e : History) → IsSameStore d.store now.store → now.shape ≡ d.shape → FreshHonoured (sizes_of d) now.store.pages e → TriedStale (sizes_of d) e now.tasks
     → EntriesStand now e
 entries_now d now e same shape fresh tried =
     let sized = sizes_same d now same shape in
@@ -251,7 +251,7 @@ untried_task s e task others tasks is stale = rw is (on_any task.tried (stale e)
     on_any true p = p
     on_any false p = tt
 
-waiting_untried : (luns : ℕ) (lim : Limits) (s : Sizes) (e : History) (others tasks : List Task) → tasks ≡ others → AllByRecursion (IsWaiting luns lim) others → TriedStale s e tasks
+pub waiting_untried : (luns : ℕ) (lim : Limits) (s : Sizes) (e : History) (others tasks : List Task) → tasks ≡ others → AllByRecursion (IsWaiting luns lim) others → TriedStale s e tasks
 waiting_untried luns lim s e [] tasks is all = rw is tt
 waiting_untried luns lim s e (next ∷ others) tasks is all = rw (is, all.0.none_tried) tt
 
@@ -377,14 +377,14 @@ programmed_entries turn rest start programs head stand =
     let come : 0 < length ready.only.come = omega (arith, programs.more, ready.only.counted) in
     let bytes = slice_range d.held start (start + 4096) in
     let Programmed : ℕ → Type 0 = λ lba. let p : Place = record { lun = task.lun; lba = lba + k } in ProgramsBlock d.store.pages p bytes turn.new.store.pages in
-    let program : Programmed is.0 = subst Programmed (ap first_block is.2) programs.program in
+    let program : Programmed is.0 = subst Programmed (ap first_block is.2) programs.writes.program in
     let fresh = honoured_programmed s d.store.pages turn.new.store.pages turn.history (head_in turn) (others_in turn) is.0 is.1 k bytes (tasks_at turn) is.2 below come program stand.fresh in
     let command : rest.command ≡ Write is.0 is.1 = ap (λ (t : Task). t.command) programs.task_is ∙ is.2 in
     entries_now d turn.new turn.history turn.same turn.shape fresh
     (untried_task s turn.history rest turn.others turn.new.tasks head (λ e. subst (IsStale s e rest) (sym command) tt))
 
 -- after the first task ended
-ended_entries : (turn : Turn) (reply : Reply) (out : List ℕ) (e : History) → out ≡ upiu_out (reply_upiu reply) → turn.new.store.pages ≡ turn.old.store.pages → turn.new.tasks ≡ turn.others
+pub ended_entries : (turn : Turn) (reply : Reply) (out : List ℕ) (e : History) → out ≡ upiu_out (reply_upiu reply) → turn.new.store.pages ≡ turn.old.store.pages → turn.new.tasks ≡ turn.others
     → FreshHonoured (sizes_of turn.old) turn.old.store.pages e → EntriesStand turn.new (e ▹ Device out)
 ended_entries turn reply out e sent pages left fresh =
     let s = sizes_of turn.old in
@@ -394,16 +394,20 @@ ended_entries turn reply out e sent pages left fresh =
     (waiting_untried turn.old.store.luns (limits_of turn.old.shape) s (e ▹ Device out) turn.others turn.new.tasks left turn.ready.waiting)
 
 -- what a step leaves
-pub stepped_entries : (turn : Turn) (progress : Progress) (result : Stepped) (out : List ℕ)
+pub stepped_entries : (turn : Turn) (progress : Progress) (result : Stepped) (out : List ℕ) → IsOfTask progress
     → Advances (limits_of turn.old.shape) turn.old.store turn.new.store turn.old.held turn.new.held turn.task progress out
     → Leaves progress turn.others turn.new.tasks turn.new.held result out → EntriesStand turn.old turn.history → EntriesStand turn.new (followed_by turn.history (events_of (group_of result out)))
-stepped_entries turn (Sends what rest) result out advances leaves stand = rw (leaves.1) (sent_entries turn what rest out advances.0 advances.1 leaves.0 stand)
-stepped_entries turn (Silent Missed rest) result out advances leaves stand = rw (leaves.1) (missed_entries turn rest advances.0.0 advances.0.1 leaves.0 stand)
-stepped_entries turn (Silent Programmed rest) result out advances leaves stand = rw (leaves.1) (programmed_entries turn rest advances.0.0 advances.0.1 leaves.0 stand)
-stepped_entries turn (Ended reply) result out advances leaves stand = rw (leaves.2) (ended_entries turn reply out turn.history leaves.3 advances.1 leaves.0 stand.fresh)
-stepped_entries turn (Failed op reply) result out advances leaves stand =
-    rw (leaves.2) (ended_entries turn reply out (turn.history ▹ CallFailed op) leaves.3 advances.1 leaves.0
-    (honoured_stays (sizes_of turn.old) turn.old.store.pages turn.history (CallFailed op) (λ p. refl) stand.fresh))
+stepped_entries turn (Sends what rest) result out own advances leaves stand =
+    rw (leaves.1) (sent_entries turn what rest out advances.0 (pages_of turn.old.store turn.new.store advances.1) leaves.0 stand)
+stepped_entries turn (Silent Missed rest) result out own advances leaves stand =
+    rw (leaves.1) (missed_entries turn rest advances.0.0 (pages_of turn.old.store turn.new.store advances.0.1) leaves.0 stand)
+stepped_entries turn (Silent Programmed rest) result out own advances leaves stand = rw (leaves.1) (programmed_entries turn rest advances.0.0 advances.0.1 leaves.0 stand)
+stepped_entries turn (Silent (Collected moved) rest) result out own advances leaves stand = absurd own
+stepped_entries turn (Ended reply) result out own advances leaves stand =
+    rw (leaves.2) (ended_entries turn reply out turn.history leaves.3 (pages_of turn.old.store turn.new.store advances.1) leaves.0 stand.fresh)
+stepped_entries turn (Failed what reply) result out own advances leaves stand =
+    rw (leaves.2) (ended_entries turn reply out (turn.history ▹ CallFailed (op_of what)) leaves.3 advances.1 leaves.0
+    (honoured_stays (sizes_of turn.old) turn.old.store.pages turn.history (CallFailed (op_of what)) (λ p. refl) stand.fresh))
 
 -- the bytes of the host list nothing
 after_host : (d : DeviceState) (bytes : List ℕ) (e : History) → EntriesStand d e → EntriesStand d (e ▹ Host bytes)

@@ -15,7 +15,7 @@ use Rattle.flat_unit.specs.Senses.{no_unit, bad_field, unknown_opcode, sense_of_
 use Rattle.flat_unit.specs.Sizes.{Sizes}
 use Rattle.flat_unit.specs.Task.{Task as Waiting}
 use Rattle.flat_unit.specs.Harmless.{IsHarmless}
-use Rattle.flat_unit.proofs.Steps.{reject_harmless, response_harmless}
+use Rattle.flat_unit.proofs.standing.OneCall.{reject_harmless, response_harmless}
 use Rattle.hpb_device.specs.declared.reply.Reply.{Reply}
 use Rattle.hpb_device.specs.declared.reply.Reply.TheVariants.{NopIn, Reject, Good, TaskSetFull, Check}
 use Rattle.hpb_device.specs.Accept.{IsRejection}

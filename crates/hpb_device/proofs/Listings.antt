@@ -1,6 +1,6 @@
 -- The chip of a device has the pages of its history, and what it lists tells of them, after each call.
-use Rattle.std.proofs.Common.{◌≡◌, ◌⊎◌, ℕ, ◌+◌, ◌-◌, ◌*◌, ◌/◌, ◌%◌, ◌^◌, ◌<◌, ◌≤◌, ◌==◌, Bool, true, false, ◌&&◌, ◌||◌, List, [], ◌∷◌, ◌++◌, filter, length, length-take, map, take, min, Option, Some, None, refl, sym, ◌∙◌, ap, subst, arith, inl, inr}
-use Rattle.std.specs.Prelude.{if◌then◌else◌, is_some, slice_range, slice_set, unwrap_or}
+use Rattle.std.proofs.Common.{◌≡◌, ◌⊎◌, ℕ, ◌+◌, ◌-◌, ◌*◌, ◌/◌, ◌%◌, ◌^◌, ◌<◌, ◌≤◌, ◌==◌, Bool, true, false, ◌||◌, List, [], ◌∷◌, ◌++◌, filter, length, length-take, map, take, min, Option, Some, None, refl, sym, ◌∙◌, ap, subst, arith, inl, inr}
+use Rattle.std.specs.Prelude.{if◌then◌else◌, slice_range, slice_set, unwrap_or}
 use Rattle.std.specs.List.{AllByRecursion}
 use Rattle.std.proofs.lemmas.Bool.{false≢true}
 use Rattle.std.proofs.lemmas.Bool.Decides.{nat_tests}
@@ -8,22 +8,21 @@ use Rattle.flash_pages.specs.declared.chip.Geometry.{Geometry}
 use Rattle.flash_pages.specs.declared.chip.Spare.{Spare}
 use Rattle.flash_pages.specs.Chip.{Page, Written, erased_chip}
 use Rattle.flash_pages.specs.Place.{Place, IsPlace}
-use Rattle.flash_pages.specs.Unit.{block_of, current, next_seq}
+use Rattle.flash_pages.specs.Unit.{current, next_seq}
 use Rattle.flash_pages.proofs.Programming.{current-erased, current-inside, current-others, current-programmed}
 use Rattle.flash_store.specs.Entries.{entry_for}
-use Rattle.flash_store.specs.Store.{ProgramsBlock, StoreState}
+use Rattle.collector_laws.specs.Changes.{ProgramsBlock}
+use Rattle.flash_store.specs.Store.{StoreState}
 use Rattle.hpb_cdb.specs.declared.cdb.Cdb.{Cdb}
 use Rattle.hpb_cdb.specs.declared.cdb.Cdb.TheVariants.{Write, ReadBuffer}
 use Rattle.hpb_cdb.specs.declared.limits.Limits.{Limits}
-use Rattle.hpb_cdb.specs.Cdb.{blocks_of}
 use Rattle.upiu_wire.specs.declared.kind.Kind.TheVariants.{DataIn, ReadyToTransfer}
 use Rattle.upiu_wire.specs.Upiu.{Upiu, upiu_at, upiu_out}
-use Rattle.upiu_wire.specs.Written.{data_upiu, response_upiu, transfer_upiu}
-use Rattle.hpb_sense.specs.Sense.{fixed_out}
+use Rattle.upiu_wire.specs.Written.{data_upiu, transfer_upiu}
 use Rattle.flat_unit.specs.declared.event.Event.{Event}
 use Rattle.flat_unit.specs.declared.event.Event.TheVariants.{Device, Host, Failed as CallFailed}
-use Rattle.flat_unit.specs.Contents.{Leaving, is_among, is_same, leaving, leaving_all}
-use Rattle.flat_unit.specs.Entries.{TellsEntry, Told, entries_from, first_block as first_block_of, is_entry, listed, listed_by}
+use Rattle.flat_unit.specs.Contents.{is_among, is_same, leaving}
+use Rattle.flat_unit.specs.Entries.{Told, entries_from, first_block as first_block_of, is_entry, listed, listed_by}
 use Rattle.flat_unit.specs.History.{History, ◌▹◌, followed_by}
 use Rattle.flat_unit.specs.Pages.{HasPages, entry_at}
 use Rattle.flat_unit.specs.Queue.{after_reply, on_after, tasks_after}
@@ -33,38 +32,42 @@ use Rattle.flat_unit.specs.Sizes.{Sizes}
 use Rattle.flat_unit.specs.Stands.{First, Kept, is_programmed, is_programmed_for}
 use Rattle.flat_unit.specs.Task.{Task as Waiting}
 use Rattle.flat_unit.specs.Tasks.{IsQueue as IsWaitingQueue}
-use Rattle.flat_unit.specs.Writes.{covers, is_settled, is_touched, is_written_by}
-use Rattle.flat_unit.proofs.Goes.{left_with, none_programmed as waiting_none, response_leaves, with_tasks}
-use Rattle.flat_unit.proofs.Listing.{listed_entry, listed_within}
-use Rattle.flat_unit.proofs.Paging.{pages_good, pages_programmed, pages_stay, settles, with_page}
-use Rattle.flat_unit.proofs.Queue.{queue_after}
-use Rattle.flat_unit.proofs.Steps.{programmed_more, same_place}
-use Rattle.flat_unit.proofs.Subject.{out_leaves}
-use Rattle.flat_unit.proofs.Touched.{told_listed}
+use Rattle.flat_unit.specs.Writes.{is_written_by}
+use Rattle.flat_unit.proofs.standing.Sending.{left_with, none_programmed as waiting_none, response_leaves, with_tasks}
+use Rattle.flat_unit.proofs.entries.Listed.{listed_entry, listed_within}
+use Rattle.flat_unit.proofs.entries.Pages.{bad_settles_none, pages_along, pages_as, pages_good, pages_programmed, pages_stay, settles, with_page}
+use Rattle.flat_unit.proofs.queue.Tasks.{queue_after}
+use Rattle.flat_unit.proofs.standing.OneCall.{programmed_more, same_place}
+use Rattle.flat_unit.proofs.queue.Ends.{out_leaves}
+use Rattle.flat_unit.proofs.entries.Told.{told_listed, told_more}
 use Rattle.hpb_device.specs.declared.advance.Progress.{Progress}
 use Rattle.hpb_device.specs.declared.advance.Progress.TheVariants.{Sends, Silent, Ended, Failed}
 use Rattle.flash_pages.specs.declared.chip.ChipOp.{ChipOp}
 use Rattle.hpb_device.specs.declared.advance.Transfer.{Transfer}
 use Rattle.hpb_device.specs.declared.advance.Transfer.TheVariants.{LookedUp, ByEntry, EntryList, UnitCapacity, Ready}
-use Rattle.hpb_device.specs.declared.advance.Internal.TheVariants.{Missed, Programmed}
+use Rattle.hpb_device.specs.declared.advance.Internal.TheVariants.{Missed, Programmed, Collected}
 use Rattle.hpb_device.specs.declared.device.Stepped.{Stepped}
 use Rattle.hpb_device.specs.declared.reply.Cause.{Cause}
-use Rattle.hpb_device.specs.declared.reply.Cause.TheVariants.{DataNotAsked, NoRoom}
+use Rattle.hpb_device.specs.declared.reply.Cause.TheVariants.{DataNotAsked, NoNumber}
+use Rattle.hpb_device.specs.declared.advance.FailedCall.{FailedCall}
 use Rattle.hpb_device.specs.declared.reply.Reply.{Reply}
 use Rattle.hpb_device.specs.declared.reply.Reply.TheVariants.{Check, Good}
 use Rattle.hpb_device.specs.declared.task.Task.{Task}
 use Rattle.hpb_device.specs.Accept.{IsAnswered}
-use Rattle.hpb_device.specs.Advance.{Advances, Fails, IsComplete, IsSameStore, Lists, Misses, Programs, Transfers, capacity_of, entries_of, failure_of, first_block, first_listed, nth_place}
+use Rattle.hpb_device.specs.Advance.{Advances, Fails, IsComplete, IsSameStore, Lists, Misses, Programs, Transfers, failure_of, op_of, first_block, first_listed}
 use Rattle.hpb_device.specs.Calls.{EndsHead, Keeps, Leaves, TakesData}
 use Rattle.hpb_device.specs.Keeps.{KeepsTasks, waiting_of}
 use Rattle.hpb_device.specs.Limits.{limits_of}
 use Rattle.hpb_device.specs.Listed.{ListingStands, kept_now}
-use Rattle.hpb_device.specs.Reply.{cause_sense, reply_upiu}
+use Rattle.hpb_device.specs.Reply.{reply_upiu}
 use Rattle.hpb_device.specs.Standing.{DeviceStands, group_of, kept_of, programmed_of, sizes_of}
 use Rattle.hpb_device.specs.State.{DeviceState}
 use Rattle.hpb_device.specs.Task.{IsQueue, IsWaiting, bytes_given, bytes_taken}
 use Rattle.hpb_device.proofs.Entries.{ListsNone, head_listed, reply_lists_none, sent_lists_none}
-use Rattle.hpb_device.proofs.StepStands.{IsReady, Turn, head_in, is_written, none_programmed, others_in, sizes_same, tasks_at}
+use Rattle.hpb_device.proofs.Chips.{pages_of}
+use Rattle.hpb_device.proofs.Commands.{is_written}
+use Rattle.hpb_device.proofs.Leaving.{IsOfTask}
+use Rattle.hpb_device.proofs.StepStands.{IsReady, Turn, head_in, none_programmed, others_in, sizes_same, tasks_at}
 use Rattle.hpb_device.proofs.Transfers.{transfer_is}
 
 -- the places that are programmed for the first of these tasks
@@ -89,36 +92,6 @@ waiting_programmed : (luns : ℕ) (lim : Limits) (others : List Task) (p : Place
 waiting_programmed luns lim others p all =
     ap (λ (k : ℕ). is_programmed k (map waiting_of others) p) (none_programmed luns lim others all) ∙ waiting_none (map waiting_of others) p
 
-or_fewer : (a b c d : Bool) → (c ≡ true → d ≡ true) → (a || (b || c)) ≡ true → (a || (b || d)) ≡ true
-or_fewer true b c d f one = refl
-or_fewer false true c d f one = refl
-or_fewer false false c d f one = f one
-
--- the same pages, of which no more are programmed for the first task
-pages_as : (s : Sizes) (had : Place → Bool) (kept now : Kept) (page_of : Place → Option ℕ) (e : History)
-    → ((p : Place) → is_programmed now.programmed now.tasks p ≡ true → is_programmed kept.programmed kept.tasks p ≡ true)
-    → HasPages s had kept page_of e → HasPages s had now page_of e
-pages_as s had kept now page_of e fewer has = record {
-  there = λ p place one. has.there p place (or_fewer (had p) (is_settled s e p) _ _ (fewer p) one);
-  absent = has.absent;
-}
-
--- the pages of a chip that has the same ones
-pages_along : (s : Sizes) (had : Place → Bool) (kept : Kept) (old new : Place → Option ℕ) (e : History) → ((p : Place) → new p ≡ old p) → HasPages s had kept old e → HasPages s had kept new e
-pages_along s had kept old new e same has = record {
-  there = λ p place one. ap is_some (same p) ∙ has.there p place one;
-  absent = λ p place none. same p ∙ has.absent p place none;
-}
-
--- an event that lists nothing
-told_more : (s : Sizes) (pages : ℕ) (had : Place → Bool) (e : History) (x : Event) → ListsNone s e x → Told s pages had e → Told s pages had (e ▹ x)
-told_more s pages had e x none told = (told, λ p. subst (TellsEntry s pages had e p) (sym (none p)) tt)
-
--- tasks that leave without GOOD settle nothing
-bad_settles_none : (p : Place) (tasks : List Waiting) → settles p (leaving_all false tasks) ≡ false
-bad_settles_none p [] = refl
-bad_settles_none p (task ∷ others) = bad_settles_none p others
-
 data_settles_none : (tasks : List Waiting) (lun tag offset : ℕ) (bytes : List ℕ) (p : Place) → settles p (leaving tasks (Device (upiu_out (data_upiu DataIn lun tag offset bytes)))) ≡ false
 data_settles_none tasks lun tag offset bytes p = ap (settles p) (out_leaves tasks (data_upiu DataIn lun tag offset bytes))
 
@@ -135,7 +108,7 @@ not_write (Write lba n) = inr (lba, n, refl)
 not_write _ = inl (λ p task. refl)
 
 -- a device with these pages and sizes
-listings_now : (had : Place → Bool) (pages : ℕ) (d now : DeviceState) (e : History) → IsSameStore d.store now.store → now.shape ≡ d.shape
+pub listings_now : (had : Place → Bool) (pages : ℕ) (d now : DeviceState) (e : History) → IsSameStore d.store now.store → now.shape ≡ d.shape
     → pages ≡ d.store.geometry.blocks * d.store.geometry.pages
     → HasPages (sizes_of d) had (kept_now now) (current now.store.pages) e → Told (sizes_of d) pages had e → ListingStands had pages now e
 listings_now had pages d now e same shape whole there told =
@@ -246,7 +219,7 @@ ending_listings had pages d now luns lim bytes out e queue ends store shape stan
     (host_listings had pages d d bytes e (λ p one. one) refl refl stand)
 
 -- the pages of a chip on which one more block is programmed
-current_more : (old new : List Page) (here : Place) (bytes : List ℕ) (program : ProgramsBlock old here bytes new) (p : Place) → current new p ≡ with_page here program.page (current old) p
+pub current_more : (old new : List Page) (here : Place) (bytes : List ℕ) (program : ProgramsBlock old here bytes new) (p : Place) → current new p ≡ with_page here program.page (current old) p
 current_more old new here bytes program p = by_place (is_same here p) refl
   where
     itself : is_same here here ≡ true
@@ -408,7 +381,7 @@ programmed_listings : (had : Place → Bool) (pages : ℕ) (turn : Turn) (rest :
     → ListingStands had pages turn.old turn.history → ListingStands had pages turn.new turn.history
 programmed_listings had pages turn rest start programs head stand =
     listings_now had pages d now e turn.same turn.shape stand.whole
-    (pages_along s had (kept_now now) (with_page here program.page (current d.store.pages)) (current now.store.pages) e (current_more d.store.pages now.store.pages here bytes program)
+    (pages_along s had (kept_now now) (with_page here program.page (current d.store.pages)) (current now.store.pages) e (λ p place. current_more d.store.pages now.store.pages here bytes program p)
     (pages_as s had (programmed_more s (t ∷ ws) t lba 0 kept) (kept_now now) (with_page here program.page (current d.store.pages)) e fewer after))
     stand.told
   where
@@ -452,7 +425,7 @@ programmed_listings had pages turn rest start programs head stand =
     bytes = slice_range d.held start (start + 4096)
 
     program : ProgramsBlock d.store.pages here bytes now.store.pages
-    program = subst (λ (n : ℕ). let p : Place = record { lun = task.lun; lba = n + k } in ProgramsBlock d.store.pages p bytes now.store.pages) (ap first_block write.2) programs.program
+    program = subst (λ (n : ℕ). let p : Place = record { lun = task.lun; lba = n + k } in ProgramsBlock d.store.pages p bytes now.store.pages) (ap first_block write.2) programs.writes.program
 
     kept : Kept
     kept = record (kept_of 0 d []) { programmed = k }
@@ -544,7 +517,7 @@ good_listings had pages turn residual out complete sent left same stand =
     fewer p one = absurd (false≢true (sym (ap (λ (ts : List Task). programmed_at ts p) left ∙ waiting_programmed d.store.luns (limits_of d.shape) turn.others p turn.ready.waiting) ∙ one))
 
 -- after the first task was answered with sense
-cut_listings : (had : Place → Bool) (pages : ℕ) (turn : Turn) (lun tag residual : ℕ) (cause : Cause) (out : List ℕ) (e : History) → out ≡ upiu_out (reply_upiu (Check lun tag residual cause))
+pub cut_listings : (had : Place → Bool) (pages : ℕ) (turn : Turn) (lun tag residual : ℕ) (cause : Cause) (out : List ℕ) (e : History) → out ≡ upiu_out (reply_upiu (Check lun tag residual cause))
     → turn.new.tasks ≡ turn.others → turn.new.store.pages ≡ turn.old.store.pages → ListingStands had pages turn.old e → ListingStands had pages turn.new (e ▹ Device out)
 cut_listings had pages turn lun tag residual cause out e sent left same stand =
     let d = turn.old in
@@ -553,6 +526,10 @@ cut_listings had pages turn lun tag residual cause out e sent left same stand =
     (λ p. ap (λ (b : List ℕ). settles p (leaving (tasks_after s e) (Device b))) sent ∙ check_settles_none (tasks_after s e) lun tag residual cause p)
     (subst (λ (b : List ℕ). ListsNone s e (Device b)) (sym sent) (reply_lists_none s e (Check lun tag residual cause)))
     (has_ended d turn.new d.store.luns (limits_of d.shape) turn.others turn.ready.waiting left) same turn.same turn.shape stand
+
+-- a call of the chip failed
+pub call_failed_listings : (had : Place → Bool) (pages : ℕ) (d : DeviceState) (e : History) (op : ChipOp) → ListingStands had pages d e → ListingStands had pages d (e ▹ CallFailed op)
+call_failed_listings had pages d e op stand = quiet_listings had pages d d e (CallFailed op) (λ p. refl) (λ p. refl) (λ p one. one) refl (same_store d d refl) refl stand
 
 -- after an entry was tried in vain
 missed_listings : (had : Place → Bool) (pages : ℕ) (turn : Turn) (rest : Task) → Misses turn.old.store turn.task rest → turn.new.store.pages ≡ turn.old.store.pages
@@ -567,28 +544,34 @@ missed_listings had pages turn rest misses same head stand =
     (subst (λ (chip : List Page). HasPages (sizes_of d) had (kept_now turn.new) (current chip) turn.history) (sym same) there) stand.told
 
 -- after a call of the chip failed
-failed_listings : (had : Place → Bool) (pages : ℕ) (turn : Turn) (op : ChipOp) (reply : Reply) (out : List ℕ) → Fails turn.old.store turn.new.store turn.task op reply
+failed_listings : (had : Place → Bool) (pages : ℕ) (turn : Turn) (what : FailedCall) (reply : Reply) (out : List ℕ) → Fails turn.old.store turn.new.store turn.task what reply
     → out ≡ upiu_out (reply_upiu reply)
     → turn.new.tasks ≡ turn.others → turn.new.store.pages ≡ turn.old.store.pages → ListingStands had pages turn.old turn.history
-    → ListingStands had pages turn.new (turn.history ▹ CallFailed op ▹ Device out)
-failed_listings had pages turn op reply out fails sent left same stand =
+    → ListingStands had pages turn.new (turn.history ▹ CallFailed (op_of what) ▹ Device out)
+failed_listings had pages turn what reply out fails sent left same stand =
     let d = turn.old in
-    let failed = quiet_listings had pages d d turn.history (CallFailed op) (λ p. refl) (λ p. refl) (λ p one. one) refl (same_store d d refl) refl stand in
-    cut_listings had pages turn turn.task.lun turn.task.tag _ (failure_of turn.task.command) out (turn.history ▹ CallFailed op) (sent
+    let failed = call_failed_listings had pages d turn.history (op_of what) stand in
+    cut_listings had pages turn turn.task.lun turn.task.tag _ (failure_of what) out (turn.history ▹ CallFailed (op_of what)) (sent
     ∙ ap (λ (r : Reply). upiu_out (reply_upiu r)) fails.answer) left same failed
 
 -- what a step leaves
-pub stepped_listings : (had : Place → Bool) (pages : ℕ) (turn : Turn) (progress : Progress) (result : Stepped) (out : List ℕ)
+pub stepped_listings : (had : Place → Bool) (pages : ℕ) (turn : Turn) (progress : Progress) (result : Stepped) (out : List ℕ) → IsOfTask progress
     → Advances (limits_of turn.old.shape) turn.old.store turn.new.store turn.old.held turn.new.held turn.task progress out
     → Leaves progress turn.others turn.new.tasks turn.new.held result out → ListingStands had pages turn.old turn.history
     → ListingStands had pages turn.new (followed_by turn.history (events_of (group_of result out)))
-stepped_listings had pages turn (Sends what rest) result out advances leaves stand = rw (leaves.1) (sent_listings had pages turn what rest out advances.0 advances.1 leaves.0 stand)
-stepped_listings had pages turn (Silent Missed rest) result out advances leaves stand = rw (leaves.1) (missed_listings had pages turn rest advances.0.0 advances.0.1 leaves.0 stand)
-stepped_listings had pages turn (Silent Programmed rest) result out advances leaves stand = rw (leaves.1) (programmed_listings had pages turn rest advances.0.0 advances.0.1 leaves.0 stand)
-stepped_listings had pages turn (Ended reply) result out advances leaves stand =
+stepped_listings had pages turn (Sends what rest) result out own advances leaves stand =
+    rw (leaves.1) (sent_listings had pages turn what rest out advances.0 (pages_of turn.old.store turn.new.store advances.1) leaves.0 stand)
+stepped_listings had pages turn (Silent Missed rest) result out own advances leaves stand =
+    rw (leaves.1) (missed_listings had pages turn rest advances.0.0 (pages_of turn.old.store turn.new.store advances.0.1) leaves.0 stand)
+stepped_listings had pages turn (Silent Programmed rest) result out own advances leaves stand =
+    rw (leaves.1) (programmed_listings had pages turn rest advances.0.0 advances.0.1 leaves.0 stand)
+stepped_listings had pages turn (Silent (Collected moved) rest) result out own advances leaves stand = absurd own
+stepped_listings had pages turn (Ended reply) result out own advances leaves stand =
     let is : (r : Reply) → reply ≡ r → out ≡ upiu_out (reply_upiu r) = λ r e. leaves.3 ∙ ap (λ (r : Reply). upiu_out (reply_upiu r)) e in
+    let same = pages_of turn.old.store turn.new.store advances.1 in
     rw (leaves.2) (elim advances.0 [
-      | inl good ↦ good_listings had pages turn _ out good.0 (is _ good.1) leaves.0 advances.1 stand
-      | inr full ↦ cut_listings had pages turn turn.task.lun turn.task.tag _ NoRoom out turn.history (is _ full.1) leaves.0 advances.1 stand
+      | inl good ↦ good_listings had pages turn _ out good.0 (is _ good.1) leaves.0 same stand
+      | inr full ↦ cut_listings had pages turn turn.task.lun turn.task.tag _ NoNumber out turn.history (is _ full.1) leaves.0 same stand
     ])
-stepped_listings had pages turn (Failed op reply) result out advances leaves stand = rw (leaves.2) (failed_listings had pages turn op reply out advances.0 leaves.3 leaves.0 advances.1 stand)
+stepped_listings had pages turn (Failed what reply) result out own advances leaves stand =
+    rw (leaves.2) (failed_listings had pages turn what reply out advances.0 leaves.3 leaves.0 advances.1 stand)

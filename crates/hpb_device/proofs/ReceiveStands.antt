@@ -19,7 +19,7 @@ use Rattle.flat_unit.specs.Sizes.{Sizes}
 use Rattle.flat_unit.specs.Sound.{answers_to, reply_events}
 use Rattle.flat_unit.specs.Stands.{First, Stands}
 use Rattle.flat_unit.specs.Task.{Task as Waiting}
-use Rattle.flat_unit.proofs.Steps.{stands_accepted, stands_taken, stands_answered, stands_refused}
+use Rattle.flat_unit.proofs.standing.OneCall.{stands_accepted, stands_taken, stands_answered, stands_refused}
 use Rattle.hpb_device.specs.declared.task.Task.{Task}
 use Rattle.hpb_device.specs.declared.reply.Reply.{Reply}
 use Rattle.hpb_device.specs.declared.reply.Reply.TheVariants.{Check}
@@ -55,7 +55,7 @@ waiting_more [] task = refl
 waiting_more (next ∷ others) task = ap (λ (ts : List Waiting). waiting_of next ∷ ts) (waiting_more others task)
 
 -- a command is kept last in order
-keeps_more : (luns : ℕ) (lim : Limits) (kept : List Task) (held : List ℕ) (tasks : List Waiting) (task : Task) → IsQueue luns lim held kept → IsWaiting luns lim task
+pub keeps_more : (luns : ℕ) (lim : Limits) (kept : List Task) (held : List ℕ) (tasks : List Waiting) (task : Task) → IsQueue luns lim held kept → IsWaiting luns lim task
     → KeepsTasks kept held tasks → KeepsTasks (kept ++ task ∷ []) held (tasks ++ waiting_of task ∷ [])
 keeps_more luns lim [] held tasks task queue is keeps =
     let all : AllByRecursion (IsWaiting luns lim) (task ∷ []) = (is, tt) in
@@ -64,7 +64,7 @@ keeps_more luns lim [] held tasks task queue is keeps =
 keeps_more luns lim (head ∷ others) held tasks task queue is keeps =
     (keeps.0, keeps.1, ap (λ (ts : List Waiting). ts ++ waiting_of task ∷ []) keeps.2 ∙ ap (λ (ts : List Waiting). keeps.0 ∷ ts) (sym (waiting_more others task)))
 
-waiting_all : (luns : ℕ) (lim : Limits) (others : List Task) (task : Task) → AllByRecursion (IsWaiting luns lim) others → IsWaiting luns lim task
+pub waiting_all : (luns : ℕ) (lim : Limits) (others : List Task) (task : Task) → AllByRecursion (IsWaiting luns lim) others → IsWaiting luns lim task
     → AllByRecursion (IsWaiting luns lim) (others ++ task ∷ [])
 waiting_all luns lim [] task all is = (is, tt)
 waiting_all luns lim (next ∷ others) task all is = (all.0, waiting_all luns lim others task all.1 is)
@@ -73,7 +73,7 @@ pub queue_more : (luns : ℕ) (lim : Limits) (kept : List Task) (held : List ℕ
 queue_more luns lim [] held task queue is = waiting_queue luns lim held (task ∷ []) queue (is, tt)
 queue_more luns lim (head ∷ others) held task queue is = (queue.0, queue.1, waiting_all luns lim others task queue.2 is)
 
-programmed_more : (luns : ℕ) (lim : Limits) (kept : List Task) (task : Task) → IsWaiting luns lim task → programmed_of kept ≡ programmed_of (kept ++ task ∷ [])
+pub programmed_more : (luns : ℕ) (lim : Limits) (kept : List Task) (task : Task) → IsWaiting luns lim task → programmed_of kept ≡ programmed_of (kept ++ task ∷ [])
 programmed_more luns lim [] task is = sym is.none_programmed
 programmed_more luns lim (head ∷ others) task is = refl
 
@@ -113,12 +113,13 @@ stands_kept d task bytes lim luns first e queue begun follows at =
       erases = at.erases;
       keeps = keeps_more luns lim d.tasks d.held at.tasks task queue waits at.keeps;
       counted = at.counted;
+      sound = at.sound;
       stands = subst (λ (n : ℕ). P (at.tasks ++ waiting_of task ∷ []) n) (programmed_more luns lim d.tasks task waits)
           (subst (λ (t : Waiting). P (at.tasks ++ t ∷ []) (programmed_of d.tasks)) same now);
     }
 
 -- data are added to the head
-data_kept : (held segment : List ℕ) (kept : Task) (task : Waiting) → length held ≤ kept.come → IsTaskOf held kept task
+pub data_kept : (held segment : List ℕ) (kept : Task) (task : Waiting) → length held ≤ kept.come → IsTaskOf held kept task
     → IsTaskOf (held ++ segment) (record kept { come = kept.come + length segment }) (with_data segment task)
 data_kept held segment kept task part at = record {
   lun = at.lun;
@@ -165,6 +166,7 @@ stands_with_data d kept others bytes segment first e is part follows at =
       erases = at.erases;
       keeps = (with_data segment task, data_kept d.held segment kept task part keeps.1, refl);
       counted = at.counted;
+      sound = at.sound;
       stands = subst (λ (n : ℕ). P segment n) (ap programmed_of is) (subst (λ (xs : List ℕ). P xs (programmed_of d.tasks)) (sym taken.segment_is) now);
     }
 
@@ -182,6 +184,7 @@ stands_with_reply d bytes reply out first e is follows at =
       erases = at.erases;
       keeps = at.keeps;
       counted = at.counted;
+      sound = at.sound;
       stands = subst (λ (b : List ℕ). Stands s first (kept_of at.erases d at.tasks) (e ▹ Host bytes ▹ Device b)) (sym is) now;
     }
 
@@ -211,6 +214,7 @@ stands_without_head d kept others bytes out residual luns lim first e is waiting
       erases = at.erases;
       keeps = keeps_waiting luns lim others waiting;
       counted = at.counted;
+      sound = at.sound;
       stands = subst (λ (n : ℕ). P n out) (sym (none_programmed luns lim others waiting)) (subst (P 0) (sym (sent ∙ ap upiu_out same)) now);
     }
 

@@ -1,11 +1,11 @@
 -- Steps that send nothing, and when they may be made.
-use Rattle.std.proofs.Common.{◌≡◌, ℕ, ◌==◌, Bool, true, false, not, ◌&&◌, ◌||◌, nat_lt, List, [], ◌∷◌, ◌++◌, map, refl, sym, ◌∙◌, ap, subst, arith, inl, inr}
+use Rattle.std.proofs.Common.{◌≡◌, ◌⊎◌, ℕ, Option, Some, ◌==◌, Bool, true, false, not, ◌&&◌, ◌||◌, nat_lt, List, [], ◌∷◌, ◌++◌, map, refl, sym, ◌∙◌, ap, subst, arith, inl, inr}
 use Rattle.std.specs.Prelude.{is_some}
 use Rattle.std.specs.List.{list_any}
 use Rattle.std.proofs.lemmas.Bool.{false≢true}
 use Rattle.std.proofs.lemmas.Bool.Decides.{nat_tests}
 use Rattle.hpb_cdb.specs.declared.cdb.Cdb.{Cdb}
-use Rattle.hpb_cdb.specs.declared.cdb.Cdb.TheVariants.{TestReady, Read, Write, Capacity, Sync, HpbRead, ReadBuffer, Prefetch, InactOne, InactAll}
+use Rattle.hpb_cdb.specs.declared.cdb.Cdb.TheVariants.{Write, HpbRead}
 use Rattle.flat_unit.specs.Command.{is_write}
 use Rattle.flat_unit.specs.History.{History}
 use Rattle.flat_unit.specs.Lists.{Fetched, entry_of_block, lists_after}
@@ -14,26 +14,31 @@ use Rattle.flat_unit.specs.Reply.{has_tag}
 use Rattle.flat_unit.specs.Sizes.{Sizes}
 use Rattle.flat_unit.specs.Stands.{First}
 use Rattle.flat_unit.specs.Task.{Task as Waiting}
-use Rattle.flat_unit.proofs.Steps.{queue_of}
-use Rattle.flat_unit.proofs.Unfetched.{no_lists}
+use Rattle.flat_unit.proofs.standing.OneCall.{queue_of}
+use Rattle.flat_unit.proofs.entries.Fetched.{no_lists}
 use Rattle.hpb_device.specs.declared.advance.Progress.{Progress}
 use Rattle.hpb_device.specs.declared.advance.Progress.TheVariants.{Sends, Silent, Ended, Failed}
-use Rattle.hpb_device.specs.declared.advance.Internal.TheVariants.{Missed, Programmed}
+use Rattle.hpb_device.specs.declared.advance.Internal.TheVariants.{Missed, Programmed, Collected}
 use Rattle.hpb_device.specs.declared.device.Sent.{Sent}
 use Rattle.hpb_device.specs.declared.device.Sent.TheVariants.{Nothing, Upiu}
 use Rattle.hpb_device.specs.declared.device.Stepped.{Stepped}
 use Rattle.hpb_device.specs.declared.task.Task.{Task}
 use Rattle.hpb_device.specs.Advance.{Advances}
-use Rattle.hpb_device.specs.Calls.{GoesOn, Leaves, Receives}
+use Rattle.flash_pages.specs.declared.chip.ChipOp.{ChipOp}
+use Rattle.flash_pages.specs.declared.chip.ChipOp.TheVariants.{Read as ReadCall}
+use Rattle.flash_store.specs.declared.answers.Phase.{Phase}
+use Rattle.flash_store.specs.declared.answers.Phase.TheVariants.{Scanning, Ready, Foreign}
+use Rattle.hpb_device.specs.Calls.{EndsUnread, Leaves, Receives, StepsIn}
+use Rattle.hpb_device.specs.Left.{unscanned}
 use Rattle.hpb_device.specs.Keeps.{KeepsTasks, waiting_of}
 use Rattle.hpb_device.specs.Limits.{limits_of}
 use Rattle.hpb_device.specs.Standing.{DeviceStands, kept_of, sizes_of}
 use Rattle.flat_unit.specs.Tasks.{AreApart}
-use Rattle.hpb_device.specs.State.{DeviceState}
+use Rattle.hpb_device.specs.State.{DeviceState, IsSound}
 use Rattle.hpb_device.specs.Task.{IsTaskOk, WasSilent, tries_entry, tries_entry_of}
-use Rattle.hpb_device.proofs.Commands.{tries_of}
+use Rattle.hpb_device.proofs.Commands.{is_written, tries_of}
 use Rattle.hpb_device.proofs.Going.{sent_or_silent}
-use Rattle.hpb_device.proofs.StepStands.{given_is, is_written}
+use Rattle.hpb_device.proofs.StepStands.{given_is}
 
 -- after a step that sent nothing
 silent_after : (old new : DeviceState) (task : Task) (others : List Task) (progress : Progress) (result : Stepped) (out : List ℕ) → IsTaskOk old.store.luns (limits_of old.shape) task
@@ -46,11 +51,32 @@ silent_after old new task others (Silent Programmed rest) result out ok advances
     let is : is_write rest.command ≡ true = ap (λ (t : Task). is_write t.command) programs.task_is ∙ ap is_write write.2 in
     let asked : rest.asked ≡ task.asked = ap (λ (t : Task). t.asked) programs.task_is in
     rw (leaves.0) (inr (is, omega (arith, asked, ok.within.come, programs.more)))
+silent_after old new task others (Silent (Collected moved) rest) result out ok advances leaves silent =
+    let collects = advances.0 in
+    let write = is_written task.command task.programmed (omega (arith, ok.within.asked, ok.within.come, collects.more)) in
+    let is : is_write rest.command ≡ true = ap (λ (t : Task). is_write t.command) collects.task_is ∙ ap is_write write.2 in
+    let asked : rest.asked ≡ task.asked = ap (λ (t : Task). t.asked) collects.task_is in
+    rw (leaves.0) (inr (is, omega (arith, asked, ok.within.come, collects.more)))
 silent_after old new task others (Ended reply) result out ok advances leaves silent = absurd (sent_or_silent result _ leaves.2 silent)
-silent_after old new task others (Failed op reply) result out ok advances leaves silent = absurd (sent_or_silent result _ leaves.2 silent)
+silent_after old new task others (Failed what reply) result out ok advances leaves silent = absurd (sent_or_silent result _ leaves.2 silent)
 
-pub going_was_silent : (old new : DeviceState) (result : Stepped) (out : List ℕ) → GoesOn old new result out → result.sent ≡ false → WasSilent new.tasks
-going_was_silent old new result out goes silent = silent_after old new goes.task goes.others goes.progress result out goes.ok goes.advances goes.leaves silent
+-- a step of the scan that sends nothing leaves the tasks as they were
+unread_silent : (failed : Option ChipOp) (tasks left : List Task) (result : Stepped) (out : List ℕ) → EndsUnread failed tasks left result out → result.sent ≡ false → WasSilent tasks → WasSilent left
+unread_silent failed [] left result out ends silent was = absurd was
+unread_silent failed (task ∷ others) left result out ends silent was = absurd (sent_or_silent result failed ends.1 silent)
+
+-- a step was due, or one before it had sent nothing
+pub going_was_silent : (phase : Phase) (old new : DeviceState) (result : Stepped) (out : List ℕ) → StepsIn phase old new result out → IsSound old → result.sent ≡ false
+    → (unscanned old ≡ 0) ⊎ WasSilent old.tasks → WasSilent new.tasks
+going_was_silent Scanning old new result out scans sound silent was = elim was [
+  | inl none ↦ absurd (omega (arith, none, scans.more))
+  | inr before ↦ elim scans.outcome [
+    | inl reads ↦ subst WasSilent (sym reads.tasks) before
+    | inr misses ↦ unread_silent (Some ReadCall) old.tasks new.tasks result out misses.ends silent before
+  ]
+]
+going_was_silent Ready old new result out goes sound silent was = silent_after old new goes.task goes.others goes.progress result out goes.ok goes.advances goes.leaves silent
+going_was_silent Foreign old new result out refuses sound silent was = absurd (refuses.foreign sound)
 
 -- a task that tries an entry was not silent
 not_written : (command : Cdb) (task : Task) → tries_entry_of command task ≡ true → is_write command ≡ false

@@ -10,11 +10,10 @@ use Rattle.flash_pages.specs.Unit.{block_of, unit_of, next_seq}
 use Rattle.flash_pages.proofs.Units.{get_or-unit_of-place}
 use Rattle.flash_pages.specs.Chip.{Page, erased_count}
 use Rattle.flash_pages.proofs.Programming.{erased_count-programmed, length-unit_of, next_seq-programmed}
-use Rattle.flash_store.specs.Store.{StoreState}
 use Rattle.hpb_cdb.specs.declared.cdb.Cdb.{Cdb}
 use Rattle.hpb_cdb.specs.declared.limits.Limits.{Limits}
 use Rattle.hpb_cdb.specs.Cdb.{blocks_of}
-use Rattle.hpb_cdb.specs.declared.cdb.Cdb.TheVariants.{TestReady, Read, Write, Capacity, Sync, HpbRead, ReadBuffer, Prefetch, InactOne, InactAll}
+use Rattle.hpb_cdb.specs.declared.cdb.Cdb.TheVariants.{TestReady, Read, Write, Capacity, Sync, HpbRead, ReadBuffer}
 use Rattle.upiu_wire.specs.Upiu.{upiu_out}
 use Rattle.flat_unit.specs.declared.event.Event.TheVariants.{Device, Failed as CallFailed}
 use Rattle.flat_unit.specs.Command.{is_write, needed}
@@ -33,16 +32,15 @@ use Rattle.flat_unit.specs.Causes.{HasCauseFor}
 use Rattle.flat_unit.specs.Writes.{moves, blocks_come, blocks_of_head, whole_blocks}
 use Rattle.flat_unit.specs.Sends.{MayEndWith}
 use Rattle.flat_unit.specs.Senses.{read_failed, write_failed, no_number}
-use Rattle.flat_unit.proofs.Steps.{FitsWire, cause_read, cause_write, cause_number, stands_shown, stands_data, stands_asked, stands_ended, stands_good, stands_cut, stands_failed, stands_programmed}
+use Rattle.flat_unit.proofs.standing.OneCall.{FitsWire, cause_read, cause_write, cause_number, stands_shown, stands_data, stands_asked, stands_ended, stands_good, stands_cut, stands_failed, stands_programmed}
 use Rattle.std.specs.List.{AllByRecursion}
 use Rattle.flat_unit.specs.History.{followed_by}
 use Rattle.flat_unit.specs.Replays.{events_of}
 use Rattle.hpb_device.specs.declared.advance.Progress.{Progress}
 use Rattle.hpb_device.specs.declared.advance.Progress.TheVariants.{Sends, Silent, Ended, Failed}
 use Rattle.hpb_device.specs.declared.advance.Transfer.{Transfer}
-use Rattle.hpb_device.specs.declared.advance.Internal.{Internal}
 use Rattle.hpb_device.specs.declared.advance.Transfer.TheVariants.{LookedUp, ByEntry, EntryList, UnitCapacity, Ready}
-use Rattle.hpb_device.specs.declared.advance.Internal.TheVariants.{Missed, Programmed}
+use Rattle.hpb_device.specs.declared.advance.Internal.TheVariants.{Missed, Programmed, Collected}
 use Rattle.hpb_device.specs.declared.device.Stepped.{Stepped}
 use Rattle.hpb_device.specs.Advance.{Advances}
 use Rattle.hpb_device.specs.Calls.{Leaves}
@@ -51,18 +49,22 @@ use Rattle.hpb_device.specs.declared.task.Task.{Task}
 use Rattle.hpb_device.specs.declared.reply.Reply.{Reply}
 use Rattle.hpb_device.specs.declared.reply.Reply.TheVariants.{Good}
 use Rattle.hpb_device.specs.declared.reply.Cause.{Cause}
-use Rattle.hpb_device.specs.declared.reply.Cause.TheVariants.{ReadFailed, WriteFailed, NoRoom}
+use Rattle.hpb_device.specs.declared.reply.Cause.TheVariants.{ReadFailed, WriteFailed, NoNumber}
+use Rattle.hpb_device.specs.declared.advance.FailedCall.{FailedCall}
+use Rattle.hpb_device.specs.declared.advance.FailedCall.TheVariants.{MappedRead, EntryRead, WriteStep}
 use Rattle.hpb_device.specs.Reply.{cause_sense}
-use Rattle.hpb_device.specs.Advance.{Does, IsComplete, HasNoRoom, Transfers, check, call_of, failure_of, held_after, IsSameStore, SendsBlock, Lists, Tells, Asks, Programs, Fails, CallIsDue, ReadsBlocks, entries_of, first_listed, capacity_of, nth_place, first_block}
+use Rattle.hpb_device.specs.Advance.{Misses, IsComplete, HasNoNumber, Transfers, check, held_after, IsSameStore, op_of, SendsBlock, Lists, Tells, Asks, Programs, Fails, ReadsBlocks, entries_of, first_listed, capacity_of, nth_place, first_block}
 use Rattle.hpb_device.specs.Keeps.{KeepsTasks, waiting_of}
 use Rattle.hpb_device.specs.Limits.{limits_of}
 use Rattle.hpb_device.specs.Reply.{reply_upiu}
 use Rattle.hpb_device.specs.Sizes.{sizes}
 use Rattle.hpb_device.specs.Standing.{sizes_of, kept_of, programmed_of, DeviceStands}
-use Rattle.hpb_device.specs.State.{DeviceState}
+use Rattle.hpb_device.specs.State.{DeviceState, IsSound}
 use Rattle.hpb_device.specs.Task.{IsTaskOk, IsWaiting, IsQueue, IsServed, bytes_given, bytes_taken}
-use Rattle.hpb_device.proofs.Commands.{reads}
-use Rattle.flat_unit.proofs.Listing.{length-entries_from}
+use Rattle.hpb_device.proofs.Commands.{is_written, reads, tries_of}
+use Rattle.hpb_device.proofs.Chips.{pages_of}
+use Rattle.hpb_device.proofs.Leaving.{IsOfTask}
+use Rattle.flat_unit.proofs.entries.Listed.{length-entries_from}
 
 -- the task of a history, of which these bytes have come
 abbrev pub flat : Task → List ℕ → Waiting
@@ -117,11 +119,11 @@ record Judged : Type 0 where
 
 pub stands_now : (s : Sizes) (kept : Kept) (now : DeviceState) (erases : ℕ) (tasks : List Waiting) (first : First) (e : History) → s ≡ sizes_of now → kept ≡ kept_of erases now tasks
     → KeepsTasks now.tasks now.held tasks
-    → now.counts.erased ≡ min erases (2 ^ 64 - 1)
+    → now.counts.erased ≡ min erases (2 ^ 64 - 1) → IsSound now
     → Stands s first kept e → DeviceStands now first e
-stands_now s kept now erases tasks first e sized same keeps counted at =
+stands_now s kept now erases tasks first e sized same keeps counted sound at =
     let pair : record { s = s; kept = kept } ≡ record { s = sizes_of now; kept = kept_of erases now tasks } = λ i. record { s = sized i; kept = same i } in
-    record { tasks = tasks; erases = erases; keeps = keeps; counted = counted; stands = subst (λ (j : Judged). Stands j.s first j.kept e) pair at }
+    record { tasks = tasks; erases = erases; keeps = keeps; counted = counted; sound = sound; stands = subst (λ (j : Judged). Stands j.s first j.kept e) pair at }
 
 pub sizes_same : (d now : DeviceState) → IsSameStore d.store now.store → now.shape ≡ d.shape → sizes_of d ≡ sizes_of now
 sizes_same d now same shape = λ i. sizes (sym same.luns i) (limits_of (sym shape i)) (sym same.geometry i)
@@ -138,11 +140,6 @@ kept_same d now erases tasks programmed same pages is = λ i. record {
   free = erased_count (sym pages i);
   erases = erases;
 }
-
--- a command that takes data is a WRITE(10)
-pub is_written : (command : Cdb) (n : ℕ) → n < bytes_taken command → (lba : ℕ) × (k : ℕ) × (command ≡ Write lba k)
-is_written (Write lba k) n more = (lba, k, refl)
-is_written _ n more = absurd (omega arith)
 
 -- what is known of a device that goes on by one step
 pub record IsReady (d : DeviceState) (task : Task) (others : List Task) (tasks : List Waiting) : Type 0 where
@@ -169,6 +166,7 @@ pub record Turn : Type 0 where
   pub same : IsSameStore old.store new.store
   pub shape : new.shape ≡ old.shape
   pub erased : new.counts.erased ≡ old.counts.erased
+  pub sound : IsSound new
 
 -- the first task, as the history has it
 abbrev pub head_in : Turn → Waiting
@@ -223,7 +221,7 @@ finish turn rest left e pages head programmed is keeps at =
     let same : count ≡ programmed_of turn.new.tasks = ap programmed_of turn.was ∙ sym programmed ∙ sym (ap programmed_of head) in
     stands_now (sizes_of turn.old) (kept_in turn (left ∷ others_in turn) count) turn.new turn.at.erases tasks turn.first e (sizes_same turn.old turn.new turn.same turn.shape)
     (ap (λ (t : Waiting). kept_in turn (t ∷ others_in turn) count) is ∙ kept_same turn.old turn.new turn.at.erases tasks count turn.same pages same)
-    (subst (λ (ts : List Task). KeepsTasks ts turn.new.held tasks) (sym head) keeps) (counted_in turn) at
+    (subst (λ (ts : List Task). KeepsTasks ts turn.new.held tasks) (sym head) keeps) (counted_in turn) turn.sound at
 
 -- what a command sends and takes is the same to the flat unit
 pub given_is : (s : Sizes) (lim : Limits) (command : Cdb) → s.block ≡ 4096 → s.units ≡ lim.units → s.per_region ≡ lim.per_region → s.per_sub ≡ lim.per_sub → IsServed lim command
@@ -253,12 +251,10 @@ pub record ReadsAt (s : Sizes) (task : Waiting) (command : Cdb) : Type 0 where
   pub place : next_place s task command ≡ Some (record { lun = task.lun; lba = first_block command + task.sent / s.block })
   pub piece : (block : List ℕ) → length block ≡ s.block → IsPiece s task command block
   pub may : MayEndWith command read_failed
-  pub cause : failure_of command ≡ ReadFailed
-  pub call : call_of command ≡ ReadCall
 
 pub reads_at : (s : Sizes) (task : Waiting) (command : Cdb) → ReadsBlocks command → ReadsAt s task command
-reads_at s task (Read lba n) is = record { place = refl; piece = λ block size. size; may = inl refl; cause = refl; call = refl }
-reads_at s task (HpbRead lba entry n id) is = record { place = refl; piece = λ block size. size; may = inl refl; cause = refl; call = refl }
+reads_at s task (Read lba n) is = record { place = refl; piece = λ block size. size; may = inl refl }
+reads_at s task (HpbRead lba entry n id) is = record { place = refl; piece = λ block size. size; may = inl refl }
 reads_at s task _ is = absurd is
 
 -- the next block of a read is sent
@@ -410,8 +406,8 @@ steps_programmed turn rest start programs held head =
     let unit = unit_of d.store.luns d.store.units d.store.pages in
     let whole : length unit ≡ s.luns * s.units = length-unit_of d.store.luns d.store.units d.store.pages ∙ ap (λ (u : ℕ). d.store.luns * u) ready.units in
     let free : erased_count now.store.pages + 1 ≡ erased_count d.store.pages =
-    ap (λ (chip : List Page). erased_count chip + 1) programs.program.programmed
-    ∙ sym (erased_count-programmed d.store.pages programs.program.page _ _ programs.program.inside programs.program.erased) in
+    ap (λ (chip : List Page). erased_count chip + 1) programs.writes.program.programmed
+    ∙ sym (erased_count-programmed d.store.pages programs.writes.program.page _ _ programs.writes.program.inside programs.writes.program.erased) in
     let step = stands_programmed s turn.first (kept_in turn (t ∷ ws) k) turn.history t ws lba n (erased_count now.store.pages) is below come whole free standing in
     let now_task : Task = record task { programmed = k + 1 } in
     let is_head : now.tasks ≡ now_task ∷ turn.others = head ∙ ap (λ (r : Task). r ∷ turn.others) programs.task_is in
@@ -422,22 +418,21 @@ steps_programmed turn rest start programs held head =
     let new_unit : slice_set unit (place s.units lba) (slice_range xs (4096 * k) (4096 * k + 4096)) ≡ unit_of now.store.luns now.store.units now.store.pages =
     ap (λ (i : ℕ). slice_set unit i (slice_range xs (4096 * k) (4096 * k + 4096))) index
     ∙ (ap (λ (block : List ℕ). slice_set unit (place d.store.units (first_block task.command)) block) bytes
-    ∙ (sym programs.unit ∙ (λ i. unit_of (sym turn.same.luns i) (sym turn.same.units i) now.store.pages))) in
+    ∙ (sym programs.writes.unit ∙ (λ i. unit_of (sym turn.same.luns i) (sym turn.same.units i) now.store.pages))) in
     let next : next_seq d.store.pages + 1 ≡ next_seq now.store.pages =
-    sym (ap next_seq programs.program.programmed ∙ next_seq-programmed d.store.pages programs.program.page _ _ programs.program.inside refl) in
+    sym (ap next_seq programs.writes.program.programmed ∙ next_seq-programmed d.store.pages programs.writes.program.page _ _ programs.writes.program.inside refl) in
     let programmed : k + 1 ≡ programmed_of now.tasks = sym (ap programmed_of is_head) in
     stands_now s _ now turn.at.erases (flat now_task xs ∷ ws) turn.first turn.history (sizes_same d now turn.same turn.shape)
     (λ i. record { tasks = flat now_task xs ∷ ws; on = true; unit = new_unit i; programmed = programmed i; next = next i; free = erased_count now.store.pages; erases = turn.at.erases })
-    (subst (λ (ts : List Task). KeepsTasks ts now.held (flat now_task xs ∷ ws)) (sym is_head) (holds_same turn now_task refl held)) (counted_in turn) step
+    (subst (λ (ts : List Task). KeepsTasks ts now.held (flat now_task xs ∷ ws)) (sym is_head) (holds_same turn now_task refl held)) (counted_in turn) turn.sound step
 
--- nothing is sent, and the head goes on
-steps_silent : (turn : Turn) (what : Internal) (rest : Task) → Does turn.old.store turn.new.store turn.old.held what turn.task rest → turn.new.held ≡ turn.old.held
+-- an entry was tried in vain
+steps_missed : (turn : Turn) (rest : Task) → Misses turn.old.store turn.task rest → turn.new.store.pages ≡ turn.old.store.pages → turn.new.held ≡ turn.old.held
     → turn.new.tasks ≡ rest ∷ turn.others
     → DeviceStands turn.new turn.first turn.history
-steps_silent turn Programmed rest programs held head = steps_programmed turn rest programs.0 programs.1 held head
-steps_silent turn Missed rest misses held head =
+steps_missed turn rest misses pages held head =
     let now_task : Task = record turn.task { tried = true } in
-    finish turn now_task (head_in turn) turn.history misses.1 (head ∙ ap (λ (r : Task). r ∷ turn.others) misses.0.task_is) refl refl (holds_same turn now_task refl held) (at_head turn)
+    finish turn now_task (head_in turn) turn.history pages (head ∙ ap (λ (r : Task). r ∷ turn.others) misses.task_is) refl refl (holds_same turn now_task refl held) (at_head turn)
 
 -- the device stands without its head
 without : (turn : Turn) (e : History) → (turn.new.tasks ≡ turn.others) × (turn.new.held ≡ []) → turn.new.store.pages ≡ turn.old.store.pages → StandsIn turn (others_in turn) 0 e
@@ -450,14 +445,7 @@ without turn e left pages at =
     stands_now (sizes_of turn.old) (kept_in turn ws 0) turn.new turn.at.erases ws turn.first e (sizes_same turn.old turn.new turn.same turn.shape)
     (kept_same turn.old turn.new turn.at.erases ws 0 turn.same pages (sym (ap programmed_of left.0 ∙ none_programmed luns lim turn.others waiting)))
     (subst (λ (ts : List Task). KeepsTasks ts turn.new.held ws) (sym left.0) (subst (λ (h : List ℕ). KeepsTasks turn.others h ws) (sym left.1) (keeps_waiting luns lim turn.others waiting)))
-    (counted_in turn) at
-
--- a command reads or programs blocks where it is a READ(10) or a WRITE(10)
-moves_by : (old : StoreState) (task : Task) (command : Cdb) → CallIsDue old task command → ReadsBlocks command ⊎ ((lba : ℕ) × (n : ℕ) × (command ≡ Write lba n))
-moves_by old task (Read lba n) is = inl tt
-moves_by old task (HpbRead lba entry n id) is = inl tt
-moves_by old task (Write lba n) is = inr (lba, n, refl)
-moves_by old task _ is = absurd is
+    (counted_in turn) turn.sound at
 
 write_or_not : (command : Cdb) → (is_write command ≡ false) ⊎ ((lba : ℕ) × (n : ℕ) × (command ≡ Write lba n))
 write_or_not (Write lba n) = inr (lba, n, refl)
@@ -490,7 +478,7 @@ steps_good turn out complete sent none pages =
     without turn (turn.history ▹ Device out) none pages (subst After (sym is_out) step)
 
 -- the head is answered with sense, for a cause in the history
-steps_cut : (turn : Turn) (e : History) (cause : Cause) (sense : FixedSense) (out : List ℕ) → cause_sense cause ≡ sense → MayEndWith turn.task.command sense
+pub steps_cut : (turn : Turn) (e : History) (cause : Cause) (sense : FixedSense) (out : List ℕ) → cause_sense cause ≡ sense → MayEndWith turn.task.command sense
     → HasCauseFor (sizes_of turn.old) ⊥ turn.first.next e sense.asc → out ≡ upiu_out (reply_upiu (check turn.task cause))
     → (turn.new.tasks ≡ turn.others) × (turn.new.held ≡ []) → turn.new.store.pages ≡ turn.old.store.pages
     → Stands (sizes_of turn.old) turn.first (kept_of turn.at.erases turn.old (head_in turn ∷ others_in turn)) e → DeviceStands turn.new turn.first (e ▹ Device out)
@@ -506,8 +494,8 @@ steps_cut turn e cause sense out is may has_cause sent none pages standing =
     let After : List ℕ → Type 0 = λ b. StandsIn turn ws 0 (e ▹ Device b) in
     without turn (e ▹ Device out) none pages (subst After (sym is_out) step)
 
--- no page is left for a block of a write
-steps_full : (turn : Turn) (out : List ℕ) → HasNoRoom turn.old.store turn.task → out ≡ upiu_out (reply_upiu (check turn.task NoRoom))
+-- no sequence number is left for a block of a write
+steps_full : (turn : Turn) (out : List ℕ) → HasNoNumber turn.old.store turn.task → out ≡ upiu_out (reply_upiu (check turn.task NoNumber))
     → (turn.new.tasks ≡ turn.others) × (turn.new.held ≡ []) → turn.new.store.pages ≡ turn.old.store.pages → DeviceStands turn.new turn.first (turn.history ▹ Device out)
 steps_full turn out full sent none pages =
     let task = turn.task in
@@ -520,30 +508,38 @@ steps_full turn out full sent none pages =
     let blocks : task.programmed < length xs / 4096 = omega (arith, full.more, ready.goes, ready.ok.within.whole_asked, ready.only.counted) in
     let come : task.programmed < blocks_of_head s (head_in turn ∷ others_in turn) = subst (λ (c : Cdb). task.programmed < whole_blocks s c xs) (sym command.2) blocks in
     let kept : programmed_of turn.old.tasks ≡ task.programmed = ap programmed_of turn.was in
-    let few : s.full_at ≤ turn.first.next + moves turn.history + blocks_come s turn.history = omega (arith, standing.at_most, come, kept, full.all_used) in
-    steps_cut turn turn.history NoRoom no_number out refl may (cause_number s ⊥ turn.first.next turn.history few) sent none pages standing
+    let few : 2 ^ 62 ≤ turn.first.next + moves turn.history + blocks_come s turn.history = omega (arith, standing.at_most, come, kept, full.ended) in
+    steps_cut turn turn.history NoNumber no_number out refl may (cause_number s ⊥ turn.first.next turn.history few) sent none pages standing
 
--- a call of the chip fails
-steps_failed : (turn : Turn) (op : ChipOp) (reply : Reply) (out : List ℕ) → Fails turn.old.store turn.new.store turn.task op reply → out ≡ upiu_out (reply_upiu reply)
+-- a read fails
+steps_unread : (turn : Turn) (op : ChipOp) (reply : Reply) (out : List ℕ) → ReadsBlocks turn.task.command → op ≡ ReadCall → reply ≡ check turn.task ReadFailed
+    → out ≡ upiu_out (reply_upiu reply)
     → (turn.new.tasks ≡ turn.others) × (turn.new.held ≡ []) → turn.new.store.pages ≡ turn.old.store.pages → DeviceStands turn.new turn.first (turn.history ▹ CallFailed op ▹ Device out)
-steps_failed turn op reply out fails sent none pages =
-    let task = turn.task in
+steps_unread turn op reply out read call answer sent none pages =
     let e = turn.history in
     let next = turn.first.next in
     let s = sizes_of turn.old in
     let standing = stands_failed s turn.first (kept_of turn.at.erases turn.old (head_in turn ∷ others_in turn)) e op (at_head turn) in
-    let answered : (cause : Cause) → failure_of task.command ≡ cause → out ≡ upiu_out (reply_upiu (check task cause)) =
-    λ cause is. sent ∙ (ap (λ (r : Reply). upiu_out (reply_upiu r)) fails.answer ∙ ap (λ (c : Cause). upiu_out (reply_upiu (check task c))) is) in
-    elim (moves_by turn.old.store task task.command fails.due) [
-      | inl read ↦
-          let flat_read = reads_at s (head_in turn) task.command read in
-          let call : op ≡ ReadCall = fails.call ∙ flat_read.call in
-          let cause : HasCauseFor s ⊥ next (e ▹ CallFailed op) 0x11 = subst (λ (o : ChipOp). HasCauseFor s ⊥ next (e ▹ CallFailed o) 0x11) (sym call) (cause_read s ⊥ next e) in
-          steps_cut turn (e ▹ CallFailed op) ReadFailed read_failed out refl flat_read.may cause (answered ReadFailed flat_read.cause) none pages standing
-      | inr write ↦
-          let may : MayEndWith task.command write_failed = subst (λ (c : Cdb). MayEndWith c write_failed) (sym write.2) (inl refl) in
-          steps_cut turn (e ▹ CallFailed op) WriteFailed write_failed out refl may (cause_write s ⊥ next e op) (answered WriteFailed (ap failure_of write.2)) none pages standing
-    ]
+    let flat_read = reads_at s (head_in turn) turn.task.command read in
+    let cause : HasCauseFor s ⊥ next (e ▹ CallFailed op) 0x11 = subst (λ (o : ChipOp). HasCauseFor s ⊥ next (e ▹ CallFailed o) 0x11) (sym call) (cause_read s ⊥ next e) in
+    steps_cut turn (e ▹ CallFailed op) ReadFailed read_failed out refl flat_read.may cause (sent ∙ ap (λ (r : Reply). upiu_out (reply_upiu r)) answer) none pages standing
+
+-- a call of the chip fails
+steps_failed : (turn : Turn) (what : FailedCall) (reply : Reply) (out : List ℕ) → Fails turn.old.store turn.new.store turn.task what reply → out ≡ upiu_out (reply_upiu reply)
+    → (turn.new.tasks ≡ turn.others) × (turn.new.held ≡ []) → turn.new.store.pages ≡ turn.old.store.pages → DeviceStands turn.new turn.first (turn.history ▹ CallFailed (op_of what) ▹ Device out)
+steps_failed turn MappedRead reply out fails sent none pages = steps_unread turn ReadCall reply out fails.due.0 refl fails.answer sent none pages
+steps_failed turn EntryRead reply out fails sent none pages =
+    steps_unread turn ReadCall reply out (tries_of (limits_of turn.old.shape) turn.task.command turn.task fails.due.0).reads refl fails.answer sent none pages
+steps_failed turn (WriteStep op) reply out fails sent none pages =
+    let task = turn.task in
+    let ready = turn.ready in
+    let e = turn.history in
+    let s = sizes_of turn.old in
+    let standing = stands_failed s turn.first (kept_of turn.at.erases turn.old (head_in turn ∷ others_in turn)) e op (at_head turn) in
+    let command = is_written task.command (4096 * task.programmed) (omega (arith, fails.due.0, ready.ok.within.come, ready.ok.within.asked)) in
+    let may : MayEndWith task.command write_failed = subst (λ (c : Cdb). MayEndWith c write_failed) (sym command.2) (inl refl) in
+    steps_cut turn (e ▹ CallFailed op) WriteFailed write_failed out refl may (cause_write s ⊥ turn.first.next e op)
+    (sent ∙ ap (λ (r : Reply). upiu_out (reply_upiu r)) fails.answer) none pages standing
 
 -- what is known of a device that isn't at rest
 pub ready_of : (d : DeviceState) (task : Task) (others : List Task) (first : First) (e : History) (at : DeviceStands d first e) → d.tasks ≡ task ∷ others
@@ -553,16 +549,21 @@ ready_of d task others first e at was queue units goes =
     let q = subst (IsQueue d.store.luns (limits_of d.shape) d.held) was queue in
     record { ok = q.0; units = units; goes = goes; part = q.1.part; only = first_is d.tasks d.held at.tasks task others was at.keeps; waiting = q.2 }
 
--- what a step came to, and what it tells
-pub steps : (turn : Turn) (progress : Progress) (result : Stepped) (out : List ℕ)
+-- what a step came to, and what it tells: all but a step of the collector
+pub steps : (turn : Turn) (progress : Progress) (result : Stepped) (out : List ℕ) → IsOfTask progress
     → Advances (limits_of turn.old.shape) turn.old.store turn.new.store turn.old.held turn.new.held turn.task progress out
     → Leaves progress turn.others turn.new.tasks turn.new.held result out → DeviceStands turn.new turn.first (followed_by turn.history (events_of (group_of result out)))
-steps turn (Sends what rest) result out advances leaves = rw (leaves.1) (steps_sent turn what rest out advances.0 advances.1 advances.2 leaves.0)
-steps turn (Silent what rest) result out advances leaves = rw (leaves.1) (steps_silent turn what rest advances.0 advances.1 leaves.0)
-steps turn (Ended reply) result out advances leaves =
+steps turn (Sends what rest) result out own advances leaves =
+    rw (leaves.1) (steps_sent turn what rest out advances.0 (pages_of turn.old.store turn.new.store advances.1) advances.2 leaves.0)
+steps turn (Silent Missed rest) result out own advances leaves =
+    rw (leaves.1) (steps_missed turn rest advances.0.0 (pages_of turn.old.store turn.new.store advances.0.1) advances.1 leaves.0)
+steps turn (Silent Programmed rest) result out own advances leaves = rw (leaves.1) (steps_programmed turn rest advances.0.0 advances.0.1 advances.1 leaves.0)
+steps turn (Silent (Collected moved) rest) result out own advances leaves = absurd own
+steps turn (Ended reply) result out own advances leaves =
     let is : (r : Reply) → reply ≡ r → out ≡ upiu_out (reply_upiu r) = λ r same. leaves.3 ∙ ap (λ (r : Reply). upiu_out (reply_upiu r)) same in
+    let pages = pages_of turn.old.store turn.new.store advances.1 in
     rw (leaves.2) (elim advances.0 [
-      | inl good ↦ steps_good turn out good.0 (is _ good.1) (leaves.0, leaves.1) advances.1
-      | inr full ↦ steps_full turn out full.0 (is _ full.1) (leaves.0, leaves.1) advances.1
+      | inl good ↦ steps_good turn out good.0 (is _ good.1) (leaves.0, leaves.1) pages
+      | inr full ↦ steps_full turn out full.0 (is _ full.1) (leaves.0, leaves.1) pages
     ])
-steps turn (Failed op reply) result out advances leaves = rw (leaves.2) (steps_failed turn op reply out advances.0 leaves.3 (leaves.0, leaves.1) advances.1)
+steps turn (Failed what reply) result out own advances leaves = rw (leaves.2) (steps_failed turn what reply out advances.0 leaves.3 (leaves.0, leaves.1) advances.1)

@@ -1,5 +1,5 @@
 -- What was sent for a task that goes on, whatever it was.
-use Rattle.std.proofs.Common.{◌≡◌, ◌⊎◌, ℕ, ◌+◌, ◌/◌, take, List, refl, ap, inl, inr}
+use Rattle.std.proofs.Common.{◌≡◌, ◌⊎◌, ℕ, ◌+◌, ◌/◌, take, List, inl, inr}
 use Rattle.flash_pages.specs.Unit.{block_of}
 use Rattle.flash_store.specs.Store.{StoreState}
 use Rattle.hpb_cdb.specs.declared.limits.Limits.{Limits}

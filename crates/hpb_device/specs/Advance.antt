@@ -1,15 +1,18 @@
 -- What one step makes of the first task.
-use Rattle.std.specs.Prelude.{◌≡◌, ◌⊎◌, ℕ, ◌+◌, ◌-◌, ◌*◌, ◌/◌, ◌<◌, ◌≤◌, ⊤, Bool, true, false, is_some, if◌then◌else◌, List, [], ◌++◌, length, take, min, slice_range, slice_set}
+use Rattle.std.specs.Prelude.{◌≡◌, ◌≢◌, ◌⊎◌, ℕ, ◌+◌, ◌-◌, ◌*◌, ◌/◌, ◌^◌, ◌<◌, ⊤, Bool, true, false, is_some, nat_lt, if◌then◌else◌, List, [], ◌++◌, length, take, min, slice_range}
 use Rattle.byteorder.specs.Endian.{big_bytes}
 use Rattle.hpb_outside.specs.Faults.{Rose}
 use Rattle.flash_pages.specs.declared.chip.ChipOp.{ChipOp}
 use Rattle.flash_pages.specs.declared.chip.ChipOp.TheVariants.{Read as ReadCall, Program as ProgramCall}
-use Rattle.flash_pages.specs.Place.{Place, index_of}
-use Rattle.flash_pages.specs.Chip.{erased_count}
-use Rattle.flash_pages.specs.Unit.{block_of, current, unit_of, next_seq}
-use Rattle.flash_pages.specs.Chip.{Page}
+use Rattle.flash_pages.specs.Place.{Place}
+use Rattle.flash_pages.specs.Chip.{Page, erased_count}
+use Rattle.flash_pages.specs.Unit.{block_of, current, next_seq}
+use Rattle.collector_laws.specs.CollectStep.{collect_step}
+use Rattle.flash_store.specs.declared.answers.Moved.{Moved}
+use Rattle.flash_store.specs.declared.answers.StoreFault.TheVariants as fault
+use Rattle.flash_store.specs.Collecting.{call_of}
 use Rattle.flash_store.specs.Entries.{IsHonoured, entry_for, is_valid_page}
-use Rattle.flash_store.specs.Store.{StoreState, ProgramsBlock}
+use Rattle.flash_store.specs.Store.{Collects, IsWriteFault, StoreState, Writes, collecting}
 use Rattle.flat_unit.specs.Entries.{entries_from}
 use Rattle.hpb_cdb.specs.declared.cdb.Cdb.{Cdb}
 use Rattle.hpb_cdb.specs.declared.cdb.Cdb.TheVariants.{Capacity, ReadBuffer}
@@ -19,17 +22,17 @@ use Rattle.upiu_wire.specs.Upiu.{upiu_out}
 use Rattle.upiu_wire.specs.Written.{data_upiu, transfer_upiu}
 use Rattle.hpb_device.specs.declared.task.Task.{Task}
 use Rattle.hpb_device.specs.declared.reply.Cause.{Cause}
-use Rattle.hpb_device.specs.declared.reply.Cause.TheVariants.{ReadFailed, WriteFailed, NoRoom}
+use Rattle.hpb_device.specs.declared.reply.Cause.TheVariants.{ReadFailed, WriteFailed, NoNumber}
 use Rattle.hpb_device.specs.declared.reply.Reply.{Reply}
 use Rattle.hpb_device.specs.declared.reply.Reply.TheVariants.{Good, Check}
+use Rattle.hpb_device.specs.declared.advance.FailedCall.{FailedCall}
+use Rattle.hpb_device.specs.declared.advance.FailedCall.TheVariants.{MappedRead, EntryRead, WriteStep}
 use Rattle.hpb_device.specs.declared.advance.Progress.{Progress}
 use Rattle.hpb_device.specs.declared.advance.Progress.TheVariants.{Sends, Silent, Ended, Failed}
 use Rattle.hpb_device.specs.declared.advance.Transfer.{Transfer}
 use Rattle.hpb_device.specs.declared.advance.Transfer.TheVariants.{LookedUp, ByEntry, EntryList, UnitCapacity, Ready}
 use Rattle.hpb_device.specs.declared.advance.Internal.{Internal}
-use Rattle.hpb_device.specs.declared.advance.Internal.TheVariants.{Missed, Programmed}
-use Rattle.hpb_device.specs.declared.task.Work.{Work}
-use Rattle.hpb_device.specs.declared.task.Work.TheVariants.{ReadBlocks, WriteBlocks}
+use Rattle.hpb_device.specs.declared.advance.Internal.TheVariants.{Missed, Programmed, Collected}
 use Rattle.hpb_device.specs.Task.{bytes_taken, tries_entry}
 use Rattle.hpb_device.specs.Work.{IsReading, entry_in, first_in, listed_from, work_of}
 
@@ -44,22 +47,6 @@ nth_place task k = record { lun = task.lun; lba = first_block task.command + k }
 -- CHECK CONDITION, with what wasn't moved as residual
 abbrev pub check : Task → Cause → Reply
 check task cause = Check task.lun task.tag (task.expected - task.sent - task.come) cause
-
--- why a command ends where a call of the chip failed
-abbrev pub failure_in : Work → Cause
-failure_in (ReadBlocks lba n entry) = ReadFailed
-failure_in _ = WriteFailed
-
-abbrev pub failure_of : Cdb → Cause
-failure_of command = failure_in (work_of command)
-
--- the call of the chip that a command makes
-abbrev pub call_in : Work → ChipOp
-call_in (ReadBlocks lba n entry) = ReadCall
-call_in _ = ProgramCall
-
-abbrev pub call_of : Cdb → ChipOp
-call_of command = call_in (work_of command)
 
 -- a command that reads blocks
 abbrev pub ReadsBlocks : Cdb → Type 0
@@ -134,11 +121,16 @@ pub record Asks (task rest : Task) (count : ℕ) (out : List ℕ) : Type 0 where
 -- the next block of a write, which has come, was programmed
 pub record Programs (old new : StoreState) (held : List ℕ) (task rest : Task) (start : ℕ) : Type 0 where
   pub more : 4096 * task.programmed < task.come
+  pub numbered : next_seq old.pages < 2 ^ 62
   pub starts : start + task.come ≡ 4096 * task.programmed + length held
-  pub program : ProgramsBlock old.pages (nth_place task task.programmed) (slice_range held start (start + 4096)) new.pages
-  pub unit : unit_of old.luns old.units new.pages
-      ≡ slice_set (unit_of old.luns old.units old.pages) (index_of old.units (nth_place task task.programmed)) (slice_range held start (start + 4096))
+  pub writes : Writes old (nth_place task task.programmed) (slice_range held start (start + 4096)) new
   pub task_is : rest ≡ record task { programmed = task.programmed + 1 }
+
+-- the collector made a step in the place of a program
+pub record CollectsFirst (old new : StoreState) (task rest : Task) (moved : Moved) : Type 0 where
+  pub more : 4096 * task.programmed < task.come
+  pub collects : Collects old moved new
+  pub task_is : rest ≡ task
 
 -- all data of a command were moved, and those that came were programmed
 pub record IsComplete (task : Task) : Type 0 where
@@ -146,17 +138,16 @@ pub record IsComplete (task : Task) : Type 0 where
   pub come : task.come ≡ bytes_taken task.command
   pub programmed : 4096 * task.programmed ≡ task.come
 
--- no page of the chip is left for a block that has come
-pub record HasNoRoom (old : StoreState) (task : Task) : Type 0 where
+-- no sequence number is left for a block that has come
+pub record HasNoNumber (old : StoreState) (task : Task) : Type 0 where
   pub more : 4096 * task.programmed < task.come
-  pub none_erased : erased_count old.pages ≡ 0
-  pub all_used : next_seq old.pages ≡ old.geometry.blocks * old.geometry.pages
+  pub ended : next_seq old.pages ≡ 2 ^ 62
 
--- a command is answered: it is complete, or there is no room
+-- a command is answered: it is complete, or there is no sequence number left
 abbrev pub EndsWith : StoreState → Task → Reply → Type 0
 EndsWith old task reply =
     (IsComplete task × (reply ≡ Good task.lun task.tag (task.expected - task.sent - task.come)))
-    ⊎ (HasNoRoom old task × (reply ≡ check task NoRoom))
+    ⊎ (HasNoNumber old task × (reply ≡ check task NoNumber))
 
 -- whether a page is to be read for the next block: the one that an entry to be tried names, where that is valid, and else
 -- the block's current one, where it has one
@@ -166,21 +157,44 @@ reads_page old task =
     then is_valid_page old.pages (entry_given task.command)
     else is_some (current old.pages (nth_place task (task.sent / 4096)))
 
--- a call of the chip is due: a read for the next block that is to be sent, or a program of a block that has come
-abbrev pub IsDue : StoreState → Task → Work → Type 0
-IsDue old task (ReadBlocks lba n entry) = (task.sent < task.given) × (reads_page old task ≡ true)
-IsDue old task (WriteBlocks lba n) = (4096 * task.programmed < task.come) × (0 < erased_count old.pages)
-IsDue old task _ = ⊥
+-- the call of the chip that failed
+abbrev pub op_of : FailedCall → ChipOp
+op_of MappedRead = ReadCall
+op_of EntryRead = ReadCall
+op_of (WriteStep op) = op
 
-abbrev pub CallIsDue : StoreState → Task → Cdb → Type 0
-CallIsDue old task command = IsDue old task (work_of command)
+-- the next call for a block of a write: the collector's where at most an erase block's worth of pages is erased, and else its
+-- program
+abbrev pub write_call : StoreState → ChipOp
+write_call old =
+    if nat_lt old.geometry.pages (erased_count old.pages) then ProgramCall
+    else call_of (collect_step old.geometry (collecting old)).did
+
+-- a block is to be looked up that has a page, the entry that is to be tried names a valid page, or a block is to be programmed
+-- and has a sequence number
+abbrev pub IsDue : StoreState → Task → FailedCall → Type 0
+IsDue old task MappedRead =
+    ReadsBlocks task.command × (task.sent < task.given) × (tries_entry task ≡ false) × (reads_page old task ≡ true)
+IsDue old task EntryRead = (tries_entry task ≡ true) × (reads_page old task ≡ true)
+IsDue old task (WriteStep op) =
+    (4096 * task.programmed < task.come) × (next_seq old.pages ≢ 2 ^ 62) × (op ≡ write_call old)
+
+-- what a call that failed leaves: the collector holds the victim that it has chosen, and all else is as before
+abbrev pub FailsWith : (old new : StoreState) → FailedCall → Type 0
+FailsWith old new (WriteStep op) = IsWriteFault old (fault.Failed op) new
+FailsWith old new _ = collecting new ≡ collecting old
+
+-- why a command ends where a call of the chip failed
+abbrev pub failure_of : FailedCall → Cause
+failure_of (WriteStep op) = WriteFailed
+failure_of _ = ReadFailed
 
 -- a call of the chip failed that was due
-pub record Fails (old new : StoreState) (task : Task) (op : ChipOp) (reply : Reply) : Type 0 where
-  pub due : CallIsDue old task task.command
+pub record Fails (old new : StoreState) (task : Task) (what : FailedCall) (reply : Reply) : Type 0 where
+  pub due : IsDue old task what
   pub cause : Rose old.faults new.faults
-  pub call : op ≡ call_of task.command
-  pub answer : reply ≡ check task (failure_of task.command)
+  pub left : FailsWith old new what
+  pub answer : reply ≡ check task (failure_of what)
 
 -- what was sent for a task that goes on
 abbrev pub Transfers : Limits → StoreState → Transfer → (task rest : Task) → (out : List ℕ) → Type 0
@@ -199,17 +213,19 @@ held_after _ held = held
 -- What was done for a task that goes on, and for which nothing was sent. `start` is where the next block stands in the data that
 -- are held.
 abbrev pub Does : (old new : StoreState) → (held : List ℕ) → Internal → (task rest : Task) → Type 0
-Does old new held Missed task rest = Misses old task rest × (new.pages ≡ old.pages)
+Does old new held Missed task rest = Misses old task rest × (collecting new ≡ collecting old)
 Does old new held Programmed task rest = (start : ℕ) × Programs old new held task rest start
+Does old new held (Collected moved) task rest = CollectsFirst old new task rest moved
 
 -- what a step of a command came to
 abbrev pub Advances : Limits → (old new : StoreState) → (held held_now : List ℕ) → Task → Progress → (out : List ℕ)
     → Type 0
 Advances lim old new held held_now task (Sends what rest) out =
-    Transfers lim old what task rest out × (new.pages ≡ old.pages) × (held_now ≡ held_after what held)
+    Transfers lim old what task rest out × (collecting new ≡ collecting old) × (held_now ≡ held_after what held)
 Advances lim old new held held_now task (Silent what rest) out = Does old new held what task rest × (held_now ≡ held)
-Advances lim old new held held_now task (Ended reply) out = EndsWith old task reply × (new.pages ≡ old.pages)
-Advances lim old new held held_now task (Failed op reply) out = Fails old new task op reply × (new.pages ≡ old.pages)
+Advances lim old new held held_now task (Ended reply) out = EndsWith old task reply × (collecting new ≡ collecting old)
+Advances lim old new held held_now task (Failed what reply) out =
+    Fails old new task what reply × (new.pages ≡ old.pages)
 
 -- the store serves the same blocks of the same chip
 pub record IsSameStore (old new : StoreState) : Type 0 where
@@ -222,4 +238,4 @@ abbrev pub AllTasks : (Task → Type 0) → Progress → Type 0
 AllTasks P (Sends what rest) = P rest
 AllTasks P (Silent what rest) = P rest
 AllTasks P (Ended reply) = ⊤
-AllTasks P (Failed op reply) = ⊤
+AllTasks P (Failed what reply) = ⊤

@@ -4,6 +4,7 @@ pub mod Calls
 pub mod Counts
 pub mod Entries
 pub mod Keeps
+pub mod Left
 pub mod Limits
 pub mod Listed
 pub mod Reply

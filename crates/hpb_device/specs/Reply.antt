@@ -6,7 +6,7 @@ use Rattle.upiu_wire.specs.declared.kind.Kind.TheVariants.{NopIn as NopInKind}
 use Rattle.upiu_wire.specs.Upiu.{Upiu}
 use Rattle.upiu_wire.specs.Written.{blank_upiu, reject_upiu, response_upiu}
 use Rattle.hpb_device.specs.declared.reply.Cause.{Cause}
-use Rattle.hpb_device.specs.declared.reply.Cause.TheVariants.{ReadFailed, WriteFailed, UnknownOpcode, OutOfRange, InvalidField, NoSuchUnit, NoRoom, DataNotAsked}
+use Rattle.hpb_device.specs.declared.reply.Cause.TheVariants.{ReadFailed, WriteFailed, UnknownOpcode, OutOfRange, InvalidField, NoSuchUnit, NoNumber, DataNotAsked, ChipFailed}
 use Rattle.hpb_device.specs.declared.reply.Reply.{Reply}
 use Rattle.hpb_device.specs.declared.reply.Reply.TheVariants.{NopIn, Reject, Good, TaskSetFull, Check}
 
@@ -21,8 +21,9 @@ cause_sense UnknownOpcode = sense 0x5 0x20
 cause_sense OutOfRange = sense 0x5 0x21
 cause_sense InvalidField = sense 0x5 0x24
 cause_sense NoSuchUnit = sense 0x5 0x25
-cause_sense NoRoom = sense 0x7 0x27
+cause_sense NoNumber = sense 0x7 0x27
 cause_sense DataNotAsked = sense 0xB 0x4B
+cause_sense ChipFailed = sense 0x4 0x44
 
 abbrev pub reply_upiu : Reply → Upiu
 reply_upiu (NopIn tag) = blank_upiu NopInKind 0 tag

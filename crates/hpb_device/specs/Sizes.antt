@@ -1,5 +1,5 @@
 -- The sizes of a device, by which its history is judged.
-use Rattle.std.specs.Prelude.{ℕ, ◌+◌, ◌*◌, false, List, [], ◌∷◌}
+use Rattle.std.specs.Prelude.{ℕ, ◌*◌, false, List, [], ◌∷◌}
 use Rattle.flash_pages.specs.declared.chip.Geometry.{Geometry}
 use Rattle.hpb_cdb.specs.declared.limits.Limits.{Limits}
 use Rattle.flat_unit.specs.Sizes.{Sizes}
@@ -8,18 +8,17 @@ use Rattle.flat_unit.specs.Sizes.{Sizes}
 abbrev pub OPCODES : List ℕ
 OPCODES = 0x00 ∷ 0x25 ∷ 0x28 ∷ 0x2A ∷ 0x35 ∷ 0xF8 ∷ 0xF9 ∷ []
 
--- All commands but WRITE BUFFER are served, and no page is looked at before the first command. Nothing is collected, so a write finds no page once all of them are programmed.
+-- all commands but WRITE BUFFER are served; after a reset each page of the chip is looked at
 abbrev pub sizes : ℕ → Limits → Geometry → Sizes
 sizes luns lim geometry = record {
   luns = luns;
   units = lim.units;
   block = 4096;
   room = 32;
-  pages = 0;
+  pages = geometry.blocks * geometry.pages;
   erase_block = geometry.pages;
   per_region = lim.per_region;
   per_sub = lim.per_sub;
-  full_at = geometry.blocks * geometry.pages + 1;
   opcodes = OPCODES;
   queries = false;
   manages = false;

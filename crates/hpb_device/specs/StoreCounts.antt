@@ -1,17 +1,18 @@
 -- What one step adds to the counts of a store.
-use Rattle.std.specs.Prelude.{◌≡◌, ℕ, zero, suc, ◌+◌, ◌-◌, ◌/◌, ◌≤◌, Bool, true, false}
+use Rattle.std.specs.Prelude.{◌≡◌, ℕ, zero, suc, ◌+◌, ◌-◌, ◌/◌, ◌≤◌}
 use Rattle.hpb_outside.specs.Faults.{Rose, raised}
-use Rattle.flash_pages.specs.declared.chip.ChipOp.{ChipOp}
-use Rattle.flash_pages.specs.declared.chip.ChipOp.TheVariants.{Read as ReadCall}
+use Rattle.flash_store.specs.declared.answers.Moved.{Moved}
+use Rattle.flash_store.specs.declared.answers.Moved.TheVariants.{Page}
 use Rattle.flash_store.specs.Store.{StoreState}
 use Rattle.flat_unit.specs.Counts.{one_if}
+use Rattle.hpb_device.specs.declared.advance.FailedCall.{FailedCall}
+use Rattle.hpb_device.specs.declared.advance.FailedCall.TheVariants.{MappedRead}
 use Rattle.hpb_device.specs.declared.advance.Progress.{Progress}
 use Rattle.hpb_device.specs.declared.advance.Progress.TheVariants.{Sends, Silent, Failed}
 use Rattle.hpb_device.specs.declared.advance.Transfer.TheVariants.{LookedUp, ByEntry, EntryList}
-use Rattle.hpb_device.specs.declared.advance.Internal.TheVariants.{Missed, Programmed}
+use Rattle.hpb_device.specs.declared.advance.Internal.TheVariants.{Missed, Programmed, Collected}
 use Rattle.hpb_device.specs.declared.task.Task.{Task}
 use Rattle.hpb_device.specs.Advance.{reads_page}
-use Rattle.hpb_device.specs.Task.{tries_entry}
 
 -- a count raised so many times
 abbrev pub raised_times : ℕ → ℕ → ℕ
@@ -24,21 +25,27 @@ calls_made old task (Sends LookedUp rest) = one_if (reads_page old task)
 calls_made old task (Silent Missed rest) = one_if (reads_page old task)
 calls_made old task (Sends ByEntry rest) = 1
 calls_made old task (Silent Programmed rest) = 1
-calls_made old task (Failed op reply) = 1
+calls_made old task (Silent (Collected moved) rest) = 1
+calls_made old task (Failed what reply) = 1
 calls_made old task _ = 0
 
+-- a page that the collector programmed anew changes the map
+abbrev pub lookups_moved : Moved → ℕ
+lookups_moved (Page lun lba) = 1
+lookups_moved _ = 0
+
 -- a read that failed had looked its block up, unless it tried an entry
-abbrev pub lookups_failed : (tried : Bool) → ChipOp → ℕ
-lookups_failed false ReadCall = 1
-lookups_failed true ReadCall = 0
-lookups_failed tried _ = 0
+abbrev pub lookups_failed : FailedCall → ℕ
+lookups_failed MappedRead = 1
+lookups_failed _ = 0
 
 -- how many look-ups and changes of its map a step makes: one for each entry that it lists
 abbrev pub lookups_made : Task → Progress → ℕ
 lookups_made task (Sends LookedUp rest) = 1
 lookups_made task (Silent Programmed rest) = 1
+lookups_made task (Silent (Collected moved) rest) = lookups_moved moved
 lookups_made task (Sends EntryList rest) = (rest.sent - task.sent + 7) / 8
-lookups_made task (Failed op reply) = lookups_failed (tries_entry task) op
+lookups_made task (Failed what reply) = lookups_failed what
 lookups_made task _ = 0
 
 -- how many blocks a step reads by an entry
@@ -48,7 +55,7 @@ hits_made _ = 0
 
 -- a count of faults rises by one where a call failed, and is the same for every other step
 abbrev pub CountsFault : (before now : ℕ) → Progress → Type 0
-CountsFault before now (Failed op reply) = Rose before now × (now ≤ before + 1)
+CountsFault before now (Failed what reply) = Rose before now × (now ≤ before + 1)
 CountsFault before now _ = now ≡ before
 
 -- the counts of a store are those of what the step made

@@ -1,11 +1,10 @@
 -- The commands that a device keeps, and how far each has come.
-use Rattle.std.specs.Prelude.{◌≡◌, ◌⊎◌, ℕ, ◌+◌, ◌-◌, ◌*◌, ◌/◌, ◌%◌, ◌^◌, ◌<◌, ◌≤◌, ◌==◌, Bool, true, false, not, ◌&&◌, nat_lt, if◌then◌else◌, min, List, [], ◌∷◌, length, Option, Some, None}
+use Rattle.std.specs.Prelude.{◌≡◌, ◌⊎◌, ℕ, ◌+◌, ◌*◌, ◌%◌, ◌^◌, ◌<◌, ◌≤◌, ◌==◌, Bool, true, false, not, ◌&&◌, nat_lt, List, [], ◌∷◌, length, Option, Some, None}
 use Rattle.std.specs.Bool.{OnTrue}
 use Rattle.std.specs.List.{AllByRecursion}
 use Rattle.hpb_cdb.specs.declared.cdb.Cdb.{Cdb}
 use Rattle.hpb_cdb.specs.declared.cdb.Cdb.TheVariants.{TestReady, Read, Write, Capacity, Sync, HpbRead, ReadBuffer}
 use Rattle.hpb_cdb.specs.declared.limits.Limits.{Limits}
-use Rattle.hpb_cdb.specs.Cdb.{blocks_of}
 use Rattle.flat_unit.specs.Command.{is_write}
 use Rattle.hpb_device.specs.declared.task.Task.{Task}
 use Rattle.hpb_device.specs.declared.task.Work.{Work}
@@ -84,6 +83,11 @@ pub record HoldsData (held : List ℕ) (task : Task) : Type 0 where
   pub rest : task.come ≤ 4096 * task.programmed + length held
   pub room : task.asked + length held ≤ task.come + 32768
 
+-- the first of these tasks has moved no more than the host expects
+abbrev pub HaveMovedLess : List Task → Type 0
+HaveMovedLess [] = Unit {0}
+HaveMovedLess (head ∷ _) = head.sent + head.come ≤ head.expected
+
 -- the first of these tasks, if there is one
 abbrev pub head_of : List Task → Option Task
 head_of [] = None
@@ -104,14 +108,6 @@ abbrev pub IsQueue : (luns : ℕ) → (lim : Limits) → (held : List ℕ) → L
 IsQueue luns lim held [] = held ≡ []
 IsQueue luns lim held (head ∷ others) = IsTaskOk luns lim head × HoldsData held head
     × AllByRecursion (IsWaiting luns lim) others
-
--- how many steps a task takes at most: one for each piece that is sent, one for an entry that is to be tried, one for each
--- block that is asked for or programmed, and one for its answer
-abbrev pub steps_of : Limits → Task → ℕ
-steps_of lim task =
-    (bytes_given lim task.command - task.sent + 4095) / 4096 + (if tries_entry task then 1 else 0)
-    + (bytes_taken task.command - task.asked) / 4096
-    + (bytes_taken task.command - 4096 * task.programmed) / 4096 + 1
 
 -- a step of the first task may have sent nothing since it came first or last sent: it has tried an entry in vain, or it is a
 -- write that has asked for data

@@ -1,15 +1,16 @@
 // One step of the first task.
 ghost use Rattle.std.specs.Prelude.{◌≡◌, ◌+◌, ◌-◌, ◌*◌, ◌^◌, ◌<◌, ◌≤◌, ℕ, true, false, List, [], length, vec_capacity};
-ghost use Rattle.hpb_device.specs.Task.{IsTaskOk, HoldsData, steps_of, tries_entry};
-ghost use Rattle.flash_store.specs.Store.{StoreState};
-ghost use Rattle.hpb_device.specs.Advance.{ReadsBlocks, entries_of, entry_given, first_block, Advances, AllTasks, IsSameStore, check};
+ghost use Rattle.hpb_device.specs.Task.{IsTaskOk, HoldsData, tries_entry};
+ghost use Rattle.flash_store.specs.Store.{IsSame, IsStanding, StoreState, collecting};
+ghost use Rattle.hpb_device.specs.Advance.{ReadsBlocks, entries_of, entry_given, first_block, Advances, AllTasks, check, op_of};
+ghost use Rattle.hpb_device.specs.Left.{steps_of, wait_of};
 ghost use Rattle.hpb_device.specs.StoreCounts.{CountsStep, raised_times};
 
 use crate::reply::{Cause, Reply};
 use crate::task::{BURST_BYTES, CAPACITY_BYTES, ENTRY_BYTES, Task, Work, work_of};
 use byteorder::{BigEndian, ByteOrder};
 use flash_pages::{BLOCK_BYTES, ChipOp, Flash};
-use flash_store::{Store, StoreFault, Wrote};
+use flash_store::{Moved, Phase, Store, StoreFault, Wrote};
 use hpb_cdb::{Cdb, Limits};
 use hpb_outside::Failed;
 use upiu_wire::UpiuBuf;
@@ -40,6 +41,31 @@ pub enum Internal {
     Missed,
     /// A block was programmed.
     Programmed,
+    /// The collector made a step, and the block is programmed later.
+    Collected(Moved),
+}
+
+/// The call of the store in which a call of the chip failed.
+#[derive(Clone, Copy, Debug, PartialEq, Eq)]
+pub enum FailedCall {
+    /// The read of a block that was looked up.
+    MappedRead,
+    /// The read of the page that an entry names.
+    EntryRead,
+    /// A step of a write: the program of its block, or a call of the collector's.
+    WriteStep(ChipOp),
+}
+
+impl FailedCall {
+    /// The call of the chip.
+    pub fn op(self) -> ChipOp
+        ensures { result ≡ op_of self }
+    {
+        match self {
+            FailedCall::MappedRead | FailedCall::EntryRead => ChipOp::Read,
+            FailedCall::WriteStep(op) => op,
+        }
+    }
 }
 
 /// What a step made of a command.
@@ -52,7 +78,7 @@ pub enum Progress {
     /// The command is to be answered, and is no longer kept.
     Ended(Reply),
     /// A call of the chip failed, and the command is to be answered.
-    Failed(ChipOp, Reply),
+    Failed(FailedCall, Reply),
 }
 
 /// The answer to a command that succeeded.
@@ -68,7 +94,7 @@ fn good(task: Task) -> Reply
 }
 
 /// The answer to a command that failed.
-fn check(task: Task, cause: Cause) -> Reply
+pub fn check(task: Task, cause: Cause) -> Reply
     requires { task.sent + task.come ≤ task.expected }
     ensures { result ≡ check task cause }
 {
@@ -94,11 +120,14 @@ pub fn advance<F: Flash>(
     requires held { HoldsData held.old.items task }
     requires room { 32768 ≤ vec_capacity held.old }
     requires goes { task.come ≡ task.asked }
+    requires ready { store.old.phase ≡ Phase.Ready }
+    requires stands { IsStanding store.old }
     ensures advances { Advances limits store.old store.new held.old.items held.new.items task result out.new }
     ensures ok { AllTasks (IsTaskOk store.old.luns limits) result }
     ensures held { AllTasks (HoldsData held.new.items) result }
-    ensures fewer { AllTasks (λ rest. steps_of limits rest < steps_of limits task) result }
-    ensures same { IsSameStore store.old store.new }
+    ensures fewer { AllTasks (λ rest. steps_of limits store.old.geometry.pages (wait_of store.new) rest
+        < steps_of limits store.old.geometry.pages (wait_of store.old) task) result }
+    ensures same { IsSame store.old store.new }
     ensures calls { CountsStep store.old store.new task result }
     ensures room { vec_capacity held.old ≤ vec_capacity held.new }
 {
@@ -146,11 +175,13 @@ fn show<F: Flash>(
     requires first { first_block task.command ≡ lba }
     requires untried { tries_entry task ≡ false }
     requires goes { task.come ≡ task.asked }
+    requires ready { store.old.phase ≡ Phase.Ready }
     ensures advances { (held : List ℕ) → Advances limits store.old store.new held held task result out.new }
     ensures ok { AllTasks (IsTaskOk store.old.luns limits) result }
     ensures held { (held : List ℕ) → HoldsData held task → AllTasks (HoldsData held) result }
-    ensures fewer { AllTasks (λ rest. steps_of limits rest < steps_of limits task) result }
-    ensures same { IsSameStore store.old store.new }
+    ensures fewer { (pages wait : ℕ) → AllTasks (λ rest. steps_of limits pages wait rest < steps_of limits pages wait task) result }
+    ensures kept { collecting store.new ≡ collecting store.old }
+    ensures same { IsSame store.old store.new }
     ensures calls { CountsStep store.old store.new task result }
 {
     if task.sent == task.given {
@@ -161,7 +192,7 @@ fn show<F: Flash>(
             out.put_data_in(task.lun, task.tag, task.sent, block);
             Progress::Sends(Transfer::LookedUp, task.with_block())
         }
-        Err(Failed) => Progress::Failed(ChipOp::Read, check(task, Cause::ReadFailed)),
+        Err(Failed) => Progress::Failed(FailedCall::MappedRead, check(task, Cause::ReadFailed)),
     }
 }
 
@@ -179,11 +210,13 @@ fn try_entry<F: Flash>(
     requires first { first_block task.command ≡ lba }
     requires entry { entry_given task.command ≡ entry }
     requires tries { tries_entry task ≡ true }
+    requires ready { store.old.phase ≡ Phase.Ready }
     ensures advances { (held : List ℕ) → Advances limits store.old store.new held held task result out.new }
     ensures ok { AllTasks (IsTaskOk store.old.luns limits) result }
     ensures held { (held : List ℕ) → HoldsData held task → AllTasks (HoldsData held) result }
-    ensures fewer { AllTasks (λ rest. steps_of limits rest < steps_of limits task) result }
-    ensures same { IsSameStore store.old store.new }
+    ensures fewer { (pages wait : ℕ) → AllTasks (λ rest. steps_of limits pages wait rest < steps_of limits pages wait task) result }
+    ensures kept { collecting store.new ≡ collecting store.old }
+    ensures same { IsSame store.old store.new }
     ensures calls { CountsStep store.old store.new task result }
 {
     match store.read_by_entry(task.lun, lba, entry) {
@@ -198,7 +231,7 @@ fn try_entry<F: Flash>(
                 ..task
             },
         ),
-        Err(Failed) => Progress::Failed(ChipOp::Read, check(task, Cause::ReadFailed)),
+        Err(Failed) => Progress::Failed(FailedCall::EntryRead, check(task, Cause::ReadFailed)),
     }
 }
 
@@ -218,11 +251,13 @@ fn list<F: Flash>(
     requires room { 32768 ≤ vec_capacity held.old }
     requires command { (len : ℕ) × (task.command ≡ Cdb.ReadBuffer region sub len) }
     requires goes { task.come ≡ task.asked }
+    requires ready { store.old.phase ≡ Phase.Ready }
     ensures advances { Advances limits store.old store.new held.old.items held.new.items task result out.new }
     ensures ok { AllTasks (IsTaskOk store.old.luns limits) result }
     ensures held { AllTasks (HoldsData held.new.items) result }
-    ensures fewer { AllTasks (λ rest. steps_of limits rest < steps_of limits task) result }
-    ensures same { IsSameStore store.old store.new }
+    ensures fewer { (pages wait : ℕ) → AllTasks (λ rest. steps_of limits pages wait rest < steps_of limits pages wait task) result }
+    ensures kept { collecting store.new ≡ collecting store.old }
+    ensures same { IsSame store.old store.new }
     ensures calls { CountsStep store.old store.new task result }
     ensures room { vec_capacity held.old ≤ vec_capacity held.new }
 {
@@ -259,10 +294,11 @@ fn push_entries<F: Flash>(store: &mut Store<F>, held: &mut Vec<u8>, lun: u8, fir
     requires few_blocks { store.old.units < 2 ^ 32 }
     requires empty { held.old.items ≡ [] }
     requires room { 8 * count ≤ vec_capacity held.old }
+    requires ready { store.old.phase ≡ Phase.Ready }
     ensures entries { held.new.items ≡ entries_of store.old.pages lun first count }
     ensures room { vec_capacity held.old ≤ vec_capacity held.new }
-    ensures pages { store.new.pages ≡ store.old.pages }
-    ensures same { IsSameStore store.old store.new }
+    ensures kept { collecting store.new ≡ collecting store.old }
+    ensures same { IsSame store.old store.new }
     ensures calls { (store.new.calls ≡ store.old.calls) × (store.new.faults ≡ store.old.faults) }
     ensures lookups { store.new.lookups ≡ raised_times count store.old.lookups }
     ensures hits { store.new.hits ≡ store.old.hits }
@@ -273,7 +309,7 @@ fn push_entries<F: Flash>(store: &mut Store<F>, held: &mut Vec<u8>, lun: u8, fir
     }
 }
 
-/// Programs the next block of a WRITE(10), whose data have come.
+/// Programs the next block of a WRITE(10), whose data have come, or lets the collector make a step first.
 fn program<F: Flash>(
     store: &mut Store<F>,
     held: &[u8],
@@ -288,11 +324,14 @@ fn program<F: Flash>(
     requires command { task.command ≡ Cdb.Write lba n }
     requires come { task.come ≡ task.asked }
     requires more { 4096 * task.programmed < task.come }
+    requires ready { store.old.phase ≡ Phase.Ready }
+    requires stands { IsStanding store.old }
     ensures advances { (out : List ℕ) → Advances limits store.old store.new held.now held.now task result out }
     ensures ok { AllTasks (IsTaskOk store.old.luns limits) result }
     ensures held { AllTasks (HoldsData held.now) result }
-    ensures fewer { AllTasks (λ rest. steps_of limits rest < steps_of limits task) result }
-    ensures same { IsSameStore store.old store.new }
+    ensures fewer { AllTasks (λ rest. steps_of limits store.old.geometry.pages (wait_of store.new) rest
+        < steps_of limits store.old.geometry.pages (wait_of store.old) task) result }
+    ensures same { IsSame store.old store.new }
     ensures calls { CountsStep store.old store.new task result }
 {
     let start = BLOCK_BYTES * task.programmed as usize + held.len() - task.come as usize;
@@ -305,8 +344,11 @@ fn program<F: Flash>(
                 ..task
             },
         ),
-        Err(StoreFault::NoRoom) => Progress::Ended(check(task, Cause::NoRoom)),
-        Err(StoreFault::Failed(op)) => Progress::Failed(op, check(task, Cause::WriteFailed)),
+        Ok(Wrote::Collected(moved)) => Progress::Silent(Internal::Collected(moved), task),
+        Err(StoreFault::SeqEnd) => Progress::Ended(check(task, Cause::NoNumber)),
+        Err(StoreFault::Failed(op)) => {
+            Progress::Failed(FailedCall::WriteStep(op), check(task, Cause::WriteFailed))
+        }
     }
 }
 
@@ -326,7 +368,7 @@ fn ask<F: Flash>(
     requires programmed { 4096 * task.programmed ≡ task.come }
     ensures advances { Advances limits store.now store.now held.old.items held.new.items task result out.new }
     ensures ok { AllTasks (IsTaskOk store.now.luns limits) result }
-    ensures fewer { AllTasks (λ rest. steps_of limits rest < steps_of limits task) result }
+    ensures fewer { (pages wait : ℕ) → AllTasks (λ rest. steps_of limits pages wait rest < steps_of limits pages wait task) result }
     ensures held { AllTasks (HoldsData held.new.items) result }
     ensures calls { CountsStep store.now store.now task result }
     ensures room { vec_capacity held.old ≤ vec_capacity held.new }
@@ -357,7 +399,7 @@ fn tell(task: Task, limits: Limits, out: &mut UpiuBuf) -> Progress
         → Advances limits store store held held task result out.new }
     ensures ok { (luns : ℕ) → IsTaskOk luns limits task → AllTasks (IsTaskOk luns limits) result }
     ensures held { (held : List ℕ) → HoldsData held task → AllTasks (HoldsData held) result }
-    ensures fewer { AllTasks (λ rest. steps_of limits rest < steps_of limits task) result }
+    ensures fewer { (pages wait : ℕ) → AllTasks (λ rest. steps_of limits pages wait rest < steps_of limits pages wait task) result }
     ensures calls { (store : StoreState) → CountsStep store store task result }
 {
     if task.sent == CAPACITY_BYTES as u32 {

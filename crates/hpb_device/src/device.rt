@@ -1,10 +1,13 @@
-ghost use Rattle.std.specs.Prelude.{◌≡◌, ◌≤◌, ◌↔◌, ◌<◌, ℕ, Bool, List, [], drop, length, vec_capacity, None, IsTrue, IfOk, IfErr, true, false};
+ghost use Rattle.std.specs.Prelude.{◌≡◌, ◌≢◌, ◌^◌, ◌≤◌, ◌↔◌, ◌<◌, ◌*◌, ◌⊎◌, ℕ, Bool, List, [], drop, length, vec_capacity, None, IsTrue, IfOk, IfErr, true, false};
 ghost use Rattle.hpb_outside.specs.Faults.{Rose, raised};
-ghost use Rattle.flash_pages.specs.Chip.{erased_chip};
+ghost use Rattle.flash_pages.specs.Chip.{Page};
 ghost use Rattle.flash_pages.specs.Place.{Place};
+ghost use Rattle.flash_pages.specs.Unit.{next_seq};
+ghost use Rattle.collector_laws.specs.Changes.{AreCollected};
+ghost use Rattle.flash_store.specs.Store.{IsStanding};
 ghost use Rattle.region_state.specs.Shape.{IsWithinLimits};
 ghost use Rattle.upiu_wire.specs.Upiu.{Upiu};
-ghost use Rattle.flat_unit.specs.declared.event.Event.TheVariants.{Host};
+ghost use Rattle.flat_unit.specs.declared.event.Event.TheVariants.{Host, Reset};
 ghost use Rattle.flat_unit.specs.History.{History, ◌▹◌, followed_by};
 ghost use Rattle.flat_unit.specs.Queue.{tasks_after};
 ghost use Rattle.flat_unit.specs.Replays.{enough, events_of};
@@ -12,22 +15,24 @@ ghost use Rattle.flat_unit.specs.Sound.{answers_to};
 ghost use Rattle.flat_unit.specs.Stands.{First};
 ghost use Rattle.flat_unit.specs.Task.{Task as Waiting};
 ghost use Rattle.hpb_device.specs.Limits.{limits_of};
-ghost use Rattle.hpb_device.specs.Calls.{Leaves, Stays};
+ghost use Rattle.hpb_device.specs.Calls.{EndsUnread, Leaves, Stays, at_rest, moved_by, stepped};
 ghost use Rattle.hpb_device.specs.Counts.{no_counts};
-ghost use Rattle.hpb_device.specs.State.{AtRest, IsNewFault, steps_left};
+ghost use Rattle.hpb_device.specs.Left.{steps_left, unscanned};
+ghost use Rattle.hpb_device.specs.State.{AtRest, IsIdle, IsNewFault};
+ghost use Rattle.hpb_device.specs.Task.{HaveMovedLess};
 ghost use Rattle.std.specs.Bool.{OnFalse};
 
 use crate::accept::{Verdict, judge};
-use crate::advance::{Progress, advance};
+use crate::advance::{Internal, Progress, advance, check};
 use crate::counts::Counts;
 use crate::queue::{end_head, head_of, keep_head};
-use crate::reply::{Reply, put_reply};
+use crate::reply::{Cause, Reply, put_reply};
 use crate::task::{BURST_BYTES, TASKS, Task};
 use arrayvec::ArrayVec;
 use flash_pages::{ChipOp, Flash};
-use flash_store::{Store, can_serve};
+use flash_store::{Moved, Phase, Store, can_serve};
 use hpb_cdb::Limits;
-use hpb_outside::NewFault;
+use hpb_outside::{Failed, NewFault};
 use region_state::Shape;
 use std::alloc::Global;
 use std::marker::Model;
@@ -54,21 +59,21 @@ pub struct Stepped {
 }
 
 impl Stepped {
-    /// A step of a task.
-    fn of_task(failed: Option<ChipOp>, sent: bool) -> Stepped
-        ensures { result ≡ record { idle = false; failed = failed; moved = None; sent = sent } }
+    /// A step that had something to do.
+    fn new(failed: Option<ChipOp>, moved: Option<(u8, u32)>, sent: bool) -> Stepped
+        ensures { result ≡ stepped failed moved sent }
     {
         Stepped {
             idle: false,
             failed,
-            moved: None,
+            moved,
             sent,
         }
     }
 
     /// A step with nothing to do.
     fn idle() -> Stepped
-        ensures { result ≡ record { idle = true; failed = None; moved = None; sent = false } }
+        ensures { result ≡ at_rest }
     {
         Stepped {
             idle: true,
@@ -114,18 +119,19 @@ impl<F: Flash> Model for Device<F> {
 
 impl<F: Flash> Device<F> {
     ghost use Rattle.hpb_device.specs.Accept.{TakesPiece};
-    ghost use Rattle.hpb_device.specs.Calls.{Receives, Steps, TakesData};
+    ghost use Rattle.hpb_device.specs.Calls.{Collects, GoesOn, LeavesFewer, Receives, Refuses, Scans, Steps, TakesData, reset_of, uncollected_in};
     ghost use Rattle.hpb_device.specs.Entries.{EntriesStand};
     ghost use Rattle.hpb_device.specs.Keeps.{KeepsTasks};
     ghost use Rattle.hpb_device.specs.Listed.{ListingStands};
-    ghost use Rattle.hpb_device.specs.Standing.{DeviceStands, sizes_of, answer_events, group_of};
+    ghost use Rattle.hpb_device.specs.Standing.{DeviceStands, DeviceStandsForeign, sizes_of, answer_events, first_of, group_of};
+    ghost use Rattle.hpb_device.specs.State.{IsSound};
+    ghost use Rattle.hpb_device.specs.Left.{KeepsNoWrite};
 
-    /// A device of `luns` logical units, each of this shape, over an erased chip. It takes all its memory here.
+    /// A device of `luns` logical units, each of this shape, over a chip, which it begins to scan. It takes all its memory here.
     ///
     /// It fails, and hands the chip back, with `Geometry` where a number of the shape is outside its limits or the chip
     /// can't hold the units, and with `Memory` where there isn't enough memory.
     pub fn new(alloc: Global, flash: F, shape: Shape, luns: u8) -> Result<Device<F>, (F, NewFault)>
-        requires { F.pages flash ≡ erased_chip (F.geometry flash) }
         ensures refused { IfErr result (λ refused. IsNewFault refused.1 (F.geometry flash) luns shape) }
         ensures begun { IfOk result (λ device. IsNewFault NewFault.Memory (F.geometry flash) luns shape) }
 
@@ -140,6 +146,11 @@ impl<F: Flash> Device<F> {
         ensures calls { IfOk result (λ device. device.store.calls ≡ F.calls flash) }
         ensures lookups { IfOk result (λ device. device.store.lookups ≡ 0) }
         ensures hits { IfOk result (λ device. device.store.hits ≡ 0) }
+        ensures phase { IfOk result (λ device. device.store.phase ≡ Phase.Scanning) }
+        ensures scanned { IfOk result (λ device. device.store.scanned ≡ 0) }
+        ensures stands { IfOk result (λ device. IsSound device → DeviceStands device (first_of device) []) }
+        ensures foreign { IfOk result (λ device. ¬ IsSound device
+            → DeviceStandsForeign device (F.pages flash) (first_of device) []) }
         ensures given_back { IfErr result (λ refused. refused.0 ≡ flash) }
     {
         if !shape.is_within_limits() || !can_serve(flash.geometry(), luns, shape.units) {
@@ -173,6 +184,8 @@ impl<F: Flash> Device<F> {
     pub fn receive(&mut self, bytes: &[u8], out: &mut UpiuBuf) -> Sent
         ensures stands { (first : First) (e : History) → DeviceStands self.old first e
             → DeviceStands self.new first (followed_by (e ▹ Host bytes.now) (answer_events result out.new)) }
+        ensures foreign { (chip : List Page) (first : First) (e : History) → DeviceStandsForeign self.old chip first e
+            → DeviceStandsForeign self.new chip first (followed_by (e ▹ Host bytes.now) (answer_events result out.new)) }
         ensures answers { (tasks : List Waiting) → KeepsTasks self.old.tasks self.old.held tasks
             → answers_to (sizes_of self.old) true tasks bytes.now ≡ answer_events result out.new }
         ensures receives { Receives self.old self.new bytes.now result out.new }
@@ -221,20 +234,58 @@ impl<F: Flash> Device<F> {
         }
     }
 
-    /// One step of the head task. It makes at most one call of the chip and sends at most one UPIU, in `out`.
+    /// One step. It makes at most one call of the chip and sends at most one UPIU, in `out`.
+    ///
+    /// While the chip is scanned a page is read; where the chip fails, the head task ends. On a foreign chip the head task ends. On a
+    /// ready one the head task goes on.
     pub fn step(&mut self, out: &mut UpiuBuf) -> Stepped
         ensures stands { (first : First) (e : History) → DeviceStands self.old first e
             → DeviceStands self.new first (followed_by e (events_of (group_of result out.new))) }
+        ensures foreign { (chip : List Page) (first : First) (e : History) → DeviceStandsForeign self.old chip first e
+            → DeviceStandsForeign self.new chip first (followed_by e (events_of (group_of result out.new))) }
         ensures entries { (first : First) (e : History) → DeviceStands self.old first e → EntriesStand self.old e
             → EntriesStand self.new (followed_by e (events_of (group_of result out.new))) }
         ensures listings { (had : Place → Bool) (pages : ℕ) (first : First) (e : History)
             → DeviceStands self.old first e → ListingStands had pages self.old e
             → ListingStands had pages self.new (followed_by e (events_of (group_of result out.new))) }
-        ensures idle { IsTrue result.idle ↔ AtRest self.old }
-        ensures nothing { IsTrue result.idle
-            → result ≡ record { idle = true; failed = None; moved = None; sent = false } }
+        ensures idle { IsTrue result.idle ↔ IsIdle self.old }
+        ensures nothing { IsTrue result.idle → result ≡ at_rest }
         ensures unchanged { IsTrue result.idle → self.new ≡ self.old }
+        ensures looked { IsTrue result.idle → unscanned self.old ≡ 0 }
         ensures steps { Steps self.old self.new result out.new }
+        ensures fewer { OnFalse result.idle (LeavesFewer self.old self.new result) }
+        ensures shape { self.new.shape ≡ self.old.shape }
+    {
+        match self.store.phase() {
+            Phase::Scanning => self.scan(out),
+            Phase::Ready => self.advance_head(out),
+            Phase::Foreign => self.refuse_head(out),
+        }
+    }
+
+    /// Reads the next page of the scan.
+    fn scan(&mut self, out: &mut UpiuBuf) -> Stepped
+        requires scanning { self.old.store.phase ≡ Phase.Scanning }
+        requires stands { IsStanding self.old.store }
+        ensures scans { Scans self.old self.new result out.new }
+        ensures fewer { LeavesFewer self.old self.new result }
+        ensures shape { self.new.shape ≡ self.old.shape }
+    {
+        self.counts = self.counts.stepped();
+        match self.store.scan_step() {
+            Ok(_) => Stepped::new(None, None, false),
+            Err(Failed) => end_unread(&mut self.tasks, &mut self.held, Some(ChipOp::Read), out),
+        }
+    }
+
+    /// Goes on with the head on a ready chip.
+    fn advance_head(&mut self, out: &mut UpiuBuf) -> Stepped
+        requires ready { self.old.store.phase ≡ Phase.Ready }
+        requires stands { IsStanding self.old.store }
+        ensures idle { IsTrue result.idle ↔ AtRest self.old }
+        ensures nothing { IsTrue result.idle → result ≡ at_rest }
+        ensures unchanged { IsTrue result.idle → self.new ≡ self.old }
+        ensures goes { OnFalse result.idle (GoesOn self.old self.new result out.new) }
         ensures fewer { OnFalse result.idle (steps_left self.new < steps_left self.old) }
         ensures shape { self.new.shape ≡ self.old.shape }
     {
@@ -245,11 +296,89 @@ impl<F: Flash> Device<F> {
             return Stepped::idle();
         }
         let limits = limits_of(self.shape);
-        let tried = task.tries_entry();
         let progress = advance(&mut self.store, &mut self.held, task, limits, out);
-        let counts = self.counts.after(progress, tried);
+        let counts = self.counts.after(progress);
         self.counts = counts;
         leave(progress, &mut self.tasks, &mut self.held, out)
+    }
+
+    /// Ends the head on a foreign chip.
+    fn refuse_head(&mut self, out: &mut UpiuBuf) -> Stepped
+        requires foreign { self.old.store.phase ≡ Phase.Foreign }
+        requires stands { IsStanding self.old.store }
+        ensures idle { IsTrue result.idle ↔ (self.old.tasks ≡ []) }
+        ensures nothing { IsTrue result.idle → result ≡ at_rest }
+        ensures unchanged { IsTrue result.idle → self.new ≡ self.old }
+        ensures refuses { OnFalse result.idle (Refuses self.old self.new result out.new) }
+        ensures fewer { OnFalse result.idle (steps_left self.new < steps_left self.old) }
+        ensures shape { self.new.shape ≡ self.old.shape }
+    {
+        if self.tasks.is_empty() {
+            return Stepped::idle();
+        }
+        self.counts = self.counts.stepped();
+        end_unread(&mut self.tasks, &mut self.held, None, out)
+    }
+
+    /// One step of the collector, whether it is needed or not. It makes at most one call of the chip and sends nothing.
+    ///
+    /// It is idle while the chip is scanned, on a foreign chip, where no sequence number is left, and where each full erase block
+    /// holds current pages alone.
+    pub fn collect(&mut self) -> Stepped
+        ensures stands { (first : First) (e : History) → DeviceStands self.old first e
+            → DeviceStands self.new first (followed_by e (events_of (group_of result []))) }
+        ensures foreign { (chip : List Page) (first : First) (e : History) → DeviceStandsForeign self.old chip first e
+            → DeviceStandsForeign self.new chip first (followed_by e (events_of (group_of result []))) }
+        ensures entries { (e : History) → EntriesStand self.old e
+            → EntriesStand self.new (followed_by e (events_of (group_of result []))) }
+        ensures listings { (had : Place → Bool) (pages : ℕ) (e : History) → ListingStands had pages self.old e
+            → ListingStands had pages self.new (followed_by e (events_of (group_of result []))) }
+        ensures nothing { IsTrue result.idle → result ≡ at_rest }
+        ensures unready { self.old.store.phase ≢ Phase.Ready → IsTrue result.idle × (self.new ≡ self.old) }
+        ensures unchanged { IsTrue result.idle → self.new ≡ self.old }
+        ensures collects { Collects self.old self.new result }
+        ensures fewer { OnFalse result.idle (result.failed ≡ None → uncollected_in self.new < uncollected_in self.old) }
+        ensures most { self.old.store.phase ≡ Phase.Ready → uncollected_in self.old
+            ≤ 2 * self.old.store.geometry.pages * (self.old.store.geometry.blocks * self.old.store.geometry.pages) }
+        ensures none_left { self.old.store.phase ≡ Phase.Ready → uncollected_in self.old ≡ 0
+            → (next_seq self.old.store.pages ≡ 2 ^ 62) ⊎ AreCollected self.old.store.geometry self.old.store.pages }
+        ensures left { KeepsNoWrite self.old.tasks → steps_left self.new ≡ steps_left self.old }
+        ensures shape { self.new.shape ≡ self.old.shape }
+    {
+        match self.store.phase() {
+            Phase::Ready => {}
+            _ => return Stepped::idle(),
+        }
+        match self.store.collect_step() {
+            Ok(Moved::Idle) => Stepped::idle(),
+            Ok(Moved::Read) => Stepped::new(None, None, false),
+            Ok(Moved::Page(lun, lba)) => {
+                self.counts = self.counts.after_moved(Moved::Page(lun, lba));
+                Stepped::new(None, Some((lun, lba)), false)
+            }
+            Ok(Moved::Erased(block)) => {
+                self.counts = self.counts.after_moved(Moved::Erased(block));
+                Stepped::new(None, None, false)
+            }
+            Err(op) => Stepped::new(Some(op), None, false),
+        }
+    }
+
+    /// Drops all tasks, and begins to scan the chip anew. The chip and the counts stay.
+    pub fn reset(&mut self)
+        ensures reset { self.new ≡ reset_of self.old }
+        ensures stands { (first : First) (e : History) → DeviceStands self.old first e
+            → DeviceStands self.new first (e ▹ Reset) }
+        ensures foreign { (chip : List Page) (first : First) (e : History) → DeviceStandsForeign self.old chip first e
+            → DeviceStandsForeign self.new chip first (e ▹ Reset) }
+        ensures entries { (e : History) → EntriesStand self.old e → EntriesStand self.new (e ▹ Reset) }
+        ensures listings { (had : Place → Bool) (pages : ℕ) (e : History) → ListingStands had pages self.old e
+            → ListingStands had pages self.new (e ▹ Reset) }
+        ensures left { steps_left self.new ≡ self.old.store.geometry.blocks * self.old.store.geometry.pages }
+    {
+        self.tasks.clear();
+        self.held.clear();
+        self.store.reset();
     }
 
     /// What was counted since the device was made.
@@ -263,6 +392,7 @@ impl<F: Flash> Device<F> {
     pub fn waits(&self) -> Waits
         ensures nothing { (result ≡ Waits.Nothing) ↔ (self.now.tasks ≡ []) }
         ensures rest { (result ≡ Waits.Step) ↔ ¬ AtRest self.now }
+        ensures host { result ≡ Waits.Host → self.now.store.phase ≡ Phase.Ready }
         ensures left { result ≡ Waits.Step → 0 < steps_left self.now }
         ensures few { (first : First) (e : History) → DeviceStands self.now first e
             → steps_left self.now ≤ enough (sizes_of self.now) (tasks_after (sizes_of self.now) e) }
@@ -295,22 +425,57 @@ fn leave(
     match progress {
         Progress::Sends(_, rest) => {
             keep_head(tasks, rest);
-            Stepped::of_task(None, true)
+            Stepped::new(None, None, true)
+        }
+        Progress::Silent(Internal::Collected(moved), rest) => {
+            keep_head(tasks, rest);
+            Stepped::new(None, place_moved(moved), false)
         }
         Progress::Silent(_, rest) => {
             keep_head(tasks, rest);
-            Stepped::of_task(None, false)
+            Stepped::new(None, None, false)
         }
         Progress::Ended(reply) => {
             end_head(tasks, held);
             put_reply(reply, out);
-            Stepped::of_task(None, true)
+            Stepped::new(None, None, true)
         }
-        Progress::Failed(op, reply) => {
+        Progress::Failed(call, reply) => {
             end_head(tasks, held);
             put_reply(reply, out);
-            Stepped::of_task(Some(op), true)
+            Stepped::new(Some(call.op()), None, true)
         }
+    }
+}
+
+/// Answers the head, if there is one, that the chip could not be read, and tells the call that failed.
+fn end_unread(
+    tasks: &mut ArrayVec<Task, TASKS>,
+    held: &mut Vec<u8>,
+    failed: Option<ChipOp>,
+    out: &mut UpiuBuf,
+) -> Stepped
+    requires less { HaveMovedLess tasks.old.items }
+    requires held { held.old.items ≡ [] }
+    ensures ends { EndsUnread failed tasks.old.items tasks.new.items result out.new }
+    ensures held { held.new.items ≡ [] }
+    ensures room { vec_capacity held.new ≡ vec_capacity held.old }
+{
+    let Some(task) = head_of(tasks) else {
+        return Stepped::new(failed, None, false);
+    };
+    end_head(tasks, held);
+    put_reply(check(task, Cause::ChipFailed), out);
+    Stepped::new(failed, None, true)
+}
+
+/// The logical unit and the LBA of the block that the collector programmed anew.
+fn place_moved(moved: Moved) -> Option<(u8, u32)>
+    ensures { result ≡ moved_by moved }
+{
+    match moved {
+        Moved::Page(lun, lba) => Some((lun, lba)),
+        _ => None,
     }
 }
 

@@ -26,8 +26,9 @@ pub enum Cause {
     OutOfRange,
     InvalidField,
     NoSuchUnit,
-    NoRoom,
+    NoNumber,
     DataNotAsked,
+    ChipFailed,
 }
 
 impl Cause {
@@ -43,8 +44,9 @@ impl Cause {
             Cause::OutOfRange => (0x5, 0x21),
             Cause::InvalidField => (0x5, 0x24),
             Cause::NoSuchUnit => (0x5, 0x25),
-            Cause::NoRoom => (0x7, 0x27),
+            Cause::NoNumber => (0x7, 0x27),
             Cause::DataNotAsked => (0xB, 0x4B),
+            Cause::ChipFailed => (0x4, 0x44),
         };
         FixedSense { key, asc, ascq: 0 }
     }

@@ -9,7 +9,7 @@ use Rattle.flat_unit.specs.Print.{print}
 use Rattle.flat_unit.specs.Reads.{ReadsAllowed, ReadsEndGood}
 use Rattle.flat_unit.specs.Replays.{Progress}
 use Rattle.flat_unit.specs.Sizes.{Sizes}
-use Rattle.flat_unit.proofs.Reading.{reads_allowed, reads_end_well}
+use Rattle.flat_unit.proofs.contents.ReadsEnd.{reads_allowed, reads_end_well}
 use Rattle.trace_replay.specs.ByText.{is_shown_line, is_trace_line, status_of}
 use Rattle.trace_replay.specs.Headline.{AreLastWords, DrainsAll, EndsByText, IsWritten, Tells}
 use Rattle.trace_replay.specs.Run.{IsCutShort, IsPlanned, ProgramIs, RunIs, SinkEnds, SourceEnds, bad_line_text, long_text}
@@ -81,7 +81,7 @@ no_text known = appends_nothing known
 
 -- no events are plain
 none_plain : IsPlain []
-none_plain = record { bytes = tt; short = tt; unmoved = refl; alive = tt; hintless = tt }
+none_plain = record { bytes = tt; short = tt; hintless = tt }
 
 tells_program : (P : History → Type 0) (words : List (List ℕ)) (geometry : Geometry) (good : Progress → Type 0) (same : Type 0) (left left_now w w_now : Option (List ℕ)) (limit : ℕ) (status : Status)
     → P [] → ((p : Progress) → good p → P p.events) → ((p : Progress) → good p → IsPlain p.events)

@@ -1,4 +1,3 @@
-pub mod Codes
 pub mod Gathered
 pub mod Numbers
 pub mod Options

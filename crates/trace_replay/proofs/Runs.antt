@@ -6,12 +6,12 @@ use Rattle.std.specs.Io.KnownBytes.{Appends, Keeps, prepend_known}
 use Rattle.flat_unit.specs.Print.{print}
 use Rattle.flat_unit.specs.Replays.{Progress, LineTo, Replays, begun}
 use Rattle.flat_unit.specs.Sound.{SoundSoFar}
-use Rattle.flat_unit.proofs.Reading.{drains_end_reads}
+use Rattle.flat_unit.proofs.contents.ReadsEnd.{drains_end_reads}
 use Rattle.flat_unit.specs.Sizes.{Sizes}
 use Rattle.flat_unit.specs.Trace.{Line}
 use Rattle.flat_unit.proofs.History.{replays_more}
 use Rattle.hpb_device.specs.Standing.{first_of, sizes_of}
-use Rattle.hpb_device.specs.State.{DeviceState}
+use Rattle.hpb_device.specs.State.{DeviceState, IsSound}
 use Rattle.hpb_device.proofs.Entries.{begins_entries}
 use Rattle.hpb_device.proofs.Going.{begins_standing}
 use Rattle.hpb_device.proofs.Listings.{begins_listings}
@@ -36,10 +36,10 @@ takes_more left [] mid now text same line takes = (now, line, subst (λ (from : 
 takes_more left (t ∷ texts) mid now text taken line takes = (taken.0, taken.1, taken.2, takes_more taken.0 texts mid now text taken.3 line takes)
 
 pub ran_begins : (start : DeviceState) (left w : Option (List ℕ)) (gathered : List ℕ) → start.tasks ≡ [] → start.counts.erased ≡ 0 → start.store.pages ≡ erased_chip start.store.geometry
-    → Rattle.std.proofs.Common.◌≤◌ 1 start.store.geometry.pages → gathered ≡ []
+    → IsSound start → start.store.scanned ≡ 0 → Rattle.std.proofs.Common.◌≤◌ 1 start.store.geometry.pages → gathered ≡ []
     → Ran (sizes_of start) left left 0 (StandsAndPrinted start start w w gathered)
 unfolding print
-ran_begins start left w gathered none unerased erased some fresh = record {
+ran_begins start left w gathered none unerased erased sound scanned some fresh = record {
   texts = [];
   lines = [];
   moment = begun;
@@ -52,15 +52,16 @@ ran_begins start left w gathered none unerased erased some fresh = record {
   shows = (
     record {
       some_page = some;
-      stands = begins_standing start none unerased;
+      stands = begins_standing start none unerased sound;
       sizes = refl;
       same = record { geometry = refl; luns = refl; units = refl };
       faults = record { least = omega arith; most = omega arith };
-      plain = record { bytes = tt; short = tt; unmoved = refl; alive = tt; hintless = tt };
+      plain = record { bytes = tt; short = tt; hintless = tt };
       entries = begins_entries start none;
       listings = begins_listings start none erased;
       lacking = tt;
       tried = λ is. absurd (false≢true is);
+      quiet = omega (arith, scanned);
     },
     rw fresh (nothing_yet w []),
   );

@@ -20,13 +20,13 @@ use Rattle.flat_unit.specs.Pages.{KeepsFresh}
 use Rattle.flat_unit.specs.Replays.{Progress}
 use Rattle.flat_unit.specs.Sizes.{Sizes}
 use Rattle.flat_unit.specs.Stands.{First, Stands}
-use Rattle.flat_unit.proofs.Steps.{handed_back}
+use Rattle.flat_unit.proofs.standing.OneCall.{handed_back}
 use Rattle.hpb_device.specs.Limits.{limits_of}
 use Rattle.hpb_device.specs.Sizes.{sizes}
 use Rattle.hpb_device.specs.Standing.{first_of, kept_of, sizes_of}
 use Rattle.hpb_device.specs.State.{DeviceState}
 use Rattle.trace_replay.specs.Moments.{Standing, pages_in}
-use Rattle.flash_store.specs.Store.{CanServe}
+use Rattle.flash_store.specs.Index.{CanServe}
 use Rattle.region_state.specs.Shape.{IsWithinLimits}
 use Rattle.trace_replay.specs.Options.{cut_shape}
 use Rattle.trace_replay.specs.Run.{IsLeft, IsNamed, IsPlanned, ProgramIs, RunIs, geometry_text}

@@ -1,5 +1,5 @@
 -- Where a device and a text stand while a trace is replayed.
-use Rattle.std.specs.Prelude.{◌≡◌, ℕ, ◌*◌, ◌≤◌, true, List, Option, Result, MatchResult}
+use Rattle.std.specs.Prelude.{◌≡◌, ℕ, ◌-◌, ◌*◌, ◌≤◌, true, List, Option, Result, MatchResult}
 use Rattle.std.specs.List.{AllByRecursion}
 use Rattle.flat_unit.specs.Causes.{FailuresAre}
 use Rattle.flat_unit.specs.Print.{print}
@@ -10,7 +10,8 @@ use Rattle.hpb_device.specs.Advance.{IsSameStore}
 use Rattle.hpb_device.specs.Entries.{EntriesStand}
 use Rattle.hpb_device.specs.Listed.{ListingStands}
 use Rattle.hpb_device.specs.Standing.{DeviceStands, first_of, sizes_of}
-use Rattle.hpb_device.specs.State.{DeviceState, AtRest, steps_left}
+use Rattle.hpb_device.specs.Left.{steps_left, unscanned}
+use Rattle.hpb_device.specs.State.{DeviceState, AtRest}
 use Rattle.hpb_device.specs.Task.{WasSilent}
 use Rattle.trace_replay.specs.declared.replay.Turn.{Turn}
 use Rattle.trace_replay.specs.declared.replay.Turn.TheVariants.{Served, Bad, Unwritten}
@@ -37,6 +38,7 @@ pub record Standing (start now : DeviceState) (p : Progress) : Type 0 where
   pub listings : ListingStands none_written (pages_in start) now p.events
   pub lacking : AllByRecursion (LacksEnough now) p.runs
   pub tried : p.tried ≡ true → WasSilent now.tasks
+  pub quiet : unscanned now ≡ pages_in start - p.quiet
 
 -- a line that is served: all but collection and resets
 abbrev pub IsServedLine : Line → Type 0

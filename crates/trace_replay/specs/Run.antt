@@ -18,7 +18,7 @@ use Rattle.trace_replay.specs.declared.replay.Turn.TheVariants.{Served, Ended, B
 use Rattle.trace_replay.specs.declared.status.Status.{Status}
 use Rattle.trace_replay.specs.declared.status.Status.TheVariants.{Done, BadLine, ReadFault, WriteFault, LongTrace, Usage, Geometry as BadGeometry, Memory}
 use Rattle.flash_pages.specs.declared.chip.Geometry.{Geometry}
-use Rattle.flash_store.specs.Store.{CanServe}
+use Rattle.flash_store.specs.Index.{CanServe}
 use Rattle.region_state.specs.Shape.{IsWithinLimits}
 use Rattle.trace_replay.specs.Transcript.{sizes_on}
 use Rattle.trace_replay.specs.Words.{IsReplay, named_chip, named_unit}

@@ -1,12 +1,12 @@
 -- What a run promises of the events that it prints, and of the chip that it hands back.
-use Rattle.std.specs.Prelude.{◌≡◌, ⊤, ℕ, ◌*◌, Bool, false, List, [], ◌∷◌, replicate, Contains, Some}
+use Rattle.std.specs.Prelude.{ℕ, ◌*◌, Bool, false, List, replicate, Contains}
 use Rattle.flash_pages.specs.declared.chip.Geometry.{Geometry}
 use Rattle.flash_pages.specs.Chip.{Page, zeros}
 use Rattle.flash_pages.specs.Place.{Place, IsPlace}
 use Rattle.flash_pages.specs.Unit.{current, unit_of}
 use Rattle.region_state.specs.declared.shape.Shape.{Shape}
-use Rattle.flat_unit.specs.declared.event.Event.TheVariants.{Device, Reset}
-use Rattle.flat_unit.specs.Causes.{Caused, FailuresAre, sense_code}
+use Rattle.flat_unit.specs.declared.event.Event.TheVariants.{Reset}
+use Rattle.flat_unit.specs.Causes.{Caused, FailuresAre}
 use Rattle.flat_unit.specs.Contents.{Block, block_at, candidates}
 use Rattle.flat_unit.specs.History.{History, ◌▹◌}
 use Rattle.flat_unit.specs.Entries.{Told}
@@ -15,7 +15,6 @@ use Rattle.flat_unit.specs.Laws.{AreShort, HaveRoom}
 use Rattle.flat_unit.specs.Pages.{KeepsFresh}
 use Rattle.flat_unit.specs.Sizes.{Sizes}
 use Rattle.flat_unit.specs.Sound.{Sound}
-use Rattle.flat_unit.specs.Writes.{moves}
 use Rattle.hpb_device.specs.Limits.{limits_of}
 use Rattle.hpb_device.specs.Sizes.{sizes}
 
@@ -27,19 +26,11 @@ sizes_on shape geometry = sizes 1 (limits_of shape) geometry
 abbrev pub zero_unit : Shape → List Block
 zero_unit shape = replicate (1 * shape.units) zeros
 
--- no RESPONSE tells that the logical unit has failed for good
-abbrev pub NeverDead : History → Type 0
-NeverDead [] = ⊤
-NeverDead (Device bytes ∷ e) = NeverDead e × ¬ (sense_code bytes ≡ Some 0x44)
-NeverDead (_ ∷ e) = NeverDead e
-
--- The bytes of each event are bytes, and no more than a UPIU of its side has. Of what isn't built yet there is nothing: no
--- page is moved, no RESPONSE tells that the unit has failed for good, and no GOOD carries a hint.
+-- The bytes of each event are bytes, and no more than a UPIU of its side has, and its numbers have room where they are printed.
+-- No GOOD carries a hint, which isn't built yet.
 pub record IsPlain (e : History) : Type 0 where
   pub bytes : HaveRoom e
   pub short : AreShort e
-  pub unmoved : moves e ≡ 0
-  pub alive : NeverDead e
   pub hintless : NeverHints e
 
 -- no place has a page on an erased chip

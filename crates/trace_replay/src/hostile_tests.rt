@@ -1,17 +1,46 @@
 //! Hosts and chips that do what they shouldn't: whole runs, whose transcripts are judged by `oracle`.
 use super::*;
 use crate::oracle::{Sizes, Verdict, judge};
-use crate::tests::Outside;
+use crate::tests::{Outside, run_words};
 use crate::texts::push_words;
+use flash_pages::Geometry;
 use std::alloc::Global;
 use std::process::Abort;
 use std::test::Fail;
 
-/// The sizes of the device of these runs.
-const SIZES: Sizes = Sizes {
-    luns: 1,
-    units: 20,
-    pages: 32,
+/// A chip, the words that name it, and the sizes of its device.
+#[derive(Clone, Copy)]
+struct Chip {
+    geometry: Geometry,
+    words: &'static str,
+    sizes: Sizes,
+}
+
+/// The chip of most of these runs, and a small one.
+const CHIP: Chip = Chip {
+    geometry: Geometry {
+        blocks: 8,
+        pages: 4,
+    },
+    words: "replay --blocks 8 --pages 4",
+    sizes: Sizes {
+        luns: 1,
+        units: 20,
+        pages: 32,
+    },
+};
+
+const SMALL_CHIP: Chip = Chip {
+    geometry: Geometry {
+        blocks: 5,
+        pages: 2,
+    },
+    words: "replay --blocks 5 --pages 2",
+    sizes: Sizes {
+        luns: 1,
+        units: 4,
+        pages: 10,
+    },
 };
 
 /// A block is written and read back.
@@ -70,12 +99,13 @@ fn text_of(alloc: Global, lines: &[&str]) -> Result<Vec<u8>, Fail> {
     Ok(text)
 }
 
-/// How a run ended, the events that it printed, and what is found of them.
+/// How a run ended, the events that it printed, and what is found of them: the steps are how many they show at least.
 #[derive(Drop)]
 struct Ran {
     status: Status,
     text: Vec<u8>,
     verdict: Verdict,
+    steps: u64,
 }
 
 impl Ran {
@@ -99,9 +129,14 @@ impl Ran {
 
 /// Replays a trace over a chip, of whose calls those with these numbers fail.
 fn replay(alloc: Global, trace: &[u8], calls: &[u64]) -> Result<Ran, Fail> {
+    replay_over(alloc, CHIP, trace, calls)
+}
+
+fn replay_over(alloc: Global, chip: Chip, trace: &[u8], calls: &[u64]) -> Result<Ran, Fail> {
     let mut outside = Outside::faultless(alloc);
+    outside.chip = chip.geometry;
     outside.calls.extend_from_slice(calls)?;
-    let ran = crate::tests::replay(alloc, trace, outside)?;
+    let ran = run_words(alloc, chip.words, trace, outside)?;
     let end = match ran.status {
         Status::BadLine(number) => format!(in alloc; "E line {number}\n")?,
         _ => String::new(alloc),
@@ -109,10 +144,12 @@ fn replay(alloc: Global, trace: &[u8], calls: &[u64]) -> Result<Ran, Fail> {
     let Some(text) = ran.printed.strip_suffix(end.as_bytes()) else {
         return Err(Fail::new("the last line isn't that of the status"));
     };
+    let (verdict, steps) = judge(alloc, chip.sizes, text)?;
     Ok(Ran {
         status: ran.status,
         text: text.to_vec(alloc)?,
-        verdict: judge(alloc, SIZES, text)?,
+        verdict,
+        steps,
     })
 }
 
@@ -208,7 +245,7 @@ fn in_steps(alloc: Global, lines: &[&str], steps: &str, count: u32) -> Result<Ve
 fn steps_print_what_a_drain_prints(rt: HostRuntime) -> Result<(), Fail> {
     for lines in [ONE_BLOCK, TWO_BLOCKS] {
         let drained = replay(rt.alloc(), &text_of(rt.alloc(), &lines)?, &[])?;
-        for (steps, count) in [("S 1", 8), ("S 2", 4), ("S 8", 1), ("S 1000", 1)] {
+        for (steps, count) in [("S 1", 40), ("S 8", 5), ("S 1000", 1)] {
             let ran = replay(
                 rt.alloc(),
                 &in_steps(rt.alloc(), &lines, steps, count)?,
@@ -218,13 +255,18 @@ fn steps_print_what_a_drain_prints(rt: HostRuntime) -> Result<(), Fail> {
             assert!(rt; drained.text.starts_with(&ran.text), "{steps}");
             assert_eq!(rt; drained.lines(), ran.lines(), "{steps}");
         }
-        for count in 0..4u32 {
+        // The chip is scanned by 32 of the steps.
+        for count in [0, 10, 11, 12, 33, 34u32] {
             let ran = replay(
                 rt.alloc(),
                 &in_steps(rt.alloc(), &lines, "S 1", count)?,
                 &[],
             )?;
             assert!(rt; ran.is_sound(), "{count} steps");
+            assert!(rt;
+                ran.steps <= u64::from(count).saturating_mul(3),
+                "{count} steps"
+            );
         }
     }
     Ok(())
@@ -233,17 +275,80 @@ fn steps_print_what_a_drain_prints(rt: HostRuntime) -> Result<(), Fail> {
 #[test]
 fn each_call_of_the_chip_fails(rt: HostRuntime) -> Result<(), Fail> {
     let printed = text_of(rt.alloc(), &BEHIND_PRINTED)?;
-    for (lines, calls) in [(ONE_BLOCK, 2), (TWO_BLOCKS, 4u64)] {
+    // The first 32 scan the chip.
+    for (lines, calls) in [
+        (ONE_BLOCK, [1, 32, 33, 34]),
+        (TWO_BLOCKS, [33, 34, 35, 36u64]),
+    ] {
         let mut trace = text_of(rt.alloc(), &lines)?;
         push_lines(&mut trace, &BEHIND)?;
-        for call in 1..=calls {
+        for call in calls {
             let ran = replay(rt.alloc(), &trace, &[call])?;
             let verdict = ran.verdict;
             assert!(rt; ran.is_served(), "call {call}: {verdict:?}");
-            if ran.status == Status::Done {
-                assert!(rt; ran.text.contains(&b'!'), "call {call}");
-                assert!(rt; ran.text.ends_with(&printed), "call {call}");
-            }
+            assert!(rt; ran.text.contains(&b'!'), "call {call}");
+            assert!(rt; ran.text.ends_with(&printed), "call {call}");
+        }
+    }
+    Ok(())
+}
+
+/// A chip of 10 pages is filled, and its collector makes room inside the last two writes. The 29 calls of the chip are 10 of
+/// the scan, 7 programs, a program, a page that is moved (3 calls), a program, an erase, two programs, and four reads.
+const OVERWRITES: [&str; 22] = [
+    "U 01200002 z z 00004000 2a000000 z 04000000 z",
+    "D",
+    "U 02000002 z 00004000 z 00004000 z z z block zeros block block",
+    "D",
+    "U 01200002 z z 00002000 2a000000 00010000 02000000 z",
+    "D",
+    "U 02000002 z 00002000 z 00002000 z z z block zeros",
+    "D",
+    "U 01200002 z z 00001000 2a000000 00010000 01000000 z",
+    "D",
+    "U 02000002 z 00001000 z 00001000 z z z zeros",
+    "D",
+    "U 01200002 z z 00002000 2a000000 00010000 02000000 z",
+    "D",
+    "U 02000002 z 00002000 z 00002000 z z z zeros block",
+    "D",
+    "U 01200002 z z 00002000 2a000000 00010000 02000000 z",
+    "D",
+    "U 02000002 z 00002000 z 00002000 z z z block zeros",
+    "D",
+    "U 01400003 z z 00004000 28000000 z 04000000 z",
+    "D",
+];
+
+/// What is printed from the move on where no call fails.
+const OVERWRITES_PRINTED: [&str; 12] = [
+    "M 0",
+    "< 21000002 z z z z z z z",
+    "> 01200002 z z 00002000 2a000000 00010000 02000000 z",
+    "< 31000002 z z z 00002000 z z z",
+    "> 02000002 z 00002000 z 00002000 z z z block zeros",
+    "< 21000002 z z z z z z z",
+    "> 01400003 z z 00004000 28000000 z 04000000 z",
+    "< 22000003 z 00001000 z 00001000 z z z block",
+    "< 22000003 z 00001000 00001000 00001000 z z z block",
+    "< 22000003 z 00001000 00002000 00001000 z z z zeros",
+    "< 22000003 z 00001000 00003000 00001000 z z z block",
+    "< 21000003 z z z z z z z",
+];
+
+#[test]
+fn blocks_are_moved_inside_writes(rt: HostRuntime) -> Result<(), Fail> {
+    let trace = text_of(rt.alloc(), &OVERWRITES)?;
+    let printed = text_of(rt.alloc(), &OVERWRITES_PRINTED)?;
+    // The call 0 and the call 30 aren't made.
+    for call in 0..=30u64 {
+        let ran = replay_over(rt.alloc(), SMALL_CHIP, &trace, &[call])?;
+        let verdict = ran.verdict;
+        assert!(rt; ran.is_served(), "call {call}: {verdict:?}");
+        if ran.text.contains(&b'!') {
+            assert!(rt; 1 <= call && call <= 29, "call {call}");
+        } else {
+            assert!(rt; ran.text.ends_with(&printed), "call {call}");
         }
     }
     Ok(())
@@ -463,8 +568,9 @@ fn storms_leave_sound_transcripts(rt: HostRuntime) -> Result<(), Fail> {
             push_throw(&mut trace, rt.alloc(), &mut dice)?;
         }
         push_lines(&mut trace, &["D"])?;
-        let calls = [seed, seed.wrapping_mul(2), 20, 21, 37];
-        let ran = replay(rt.alloc(), &trace, &calls)?;
+        let chip = if seed % 2 == 0 { CHIP } else { SMALL_CHIP };
+        let calls = [seed, seed.wrapping_mul(2).wrapping_add(11), 40, 41, 57];
+        let ran = replay_over(rt.alloc(), chip, &trace, &calls)?;
         let verdict = ran.verdict;
         assert!(rt; ran.is_served(), "seed {seed}: {verdict:?}");
     }

@@ -34,7 +34,9 @@ const UNREAD: (u8, u8) = (0x3, 0x11);
 
 const UNPROGRAMMED: (u8, u8) = (0x3, 0x0C);
 
-const NO_PAGE: (u8, u8) = (0x7, 0x27);
+const NO_NUMBER: (u8, u8) = (0x7, 0x27);
+
+const UNSCANNED: (u8, u8) = (0x4, 0x44);
 
 const UNKNOWN_OPCODE: (u8, u8) = (0x5, 0x20);
 
@@ -65,6 +67,8 @@ pub enum Why {
     Sent,
     /// Its place can't have this block.
     Block,
+    /// The collector can't have moved this block.
+    Moved,
     /// Nothing caused the sense.
     Cause,
 }
@@ -267,6 +271,22 @@ fn nibble(digit: u8) -> Result<u8, Stop> {
     }
 }
 
+/// The number of decimal digits without leading zeros.
+fn decimal(digits: &[u8]) -> Result<u32, Stop> {
+    if digits.is_empty() || (digits.len() > 1 && digits.starts_with(b"0")) {
+        return Err(Stop::Bad(Why::Line));
+    }
+    let mut sum = 0u32;
+    for digit in digits {
+        let value = nibble(*digit)?;
+        if value > 9 {
+            return Err(Stop::Bad(Why::Line));
+        }
+        sum = sum.wrapping_mul(10).wrapping_add(u32::from(value));
+    }
+    Ok(sum)
+}
+
 /// The first of the six conditions that the bytes break as a UPIU.
 fn wire_fault(bytes: &[u8]) -> Option<u8> {
     let code = byte(bytes, 0);
@@ -337,8 +357,8 @@ fn response(
     Ok(bytes)
 }
 
-/// The tasks and blocks of a device whose transcript is read, the reply that is due, and the call of the chip that failed
-/// directly before.
+/// The tasks and blocks of a device whose transcript is read, the reply that is due, the call of the chip that failed
+/// directly before, whether the chip must have been scanned, and how many steps were made at least.
 #[derive(Drop)]
 struct Oracle {
     alloc: Global,
@@ -347,7 +367,8 @@ struct Oracle {
     places: Vec<Vec<Vec<u8>>>,
     due: Option<Vec<u8>>,
     failed: Option<Call>,
-    blocks_come: u64,
+    is_scanned: bool,
+    steps: u64,
 }
 
 impl Oracle {
@@ -365,7 +386,8 @@ impl Oracle {
             places,
             due: None,
             failed: None,
-            blocks_come: 0,
+            is_scanned: false,
+            steps: 0,
         })
     }
 
@@ -386,12 +408,38 @@ impl Oracle {
             let bytes = decode(self.alloc, digits)?;
             return self.take_host(&bytes);
         }
+        self.count_steps(1);
+        if let Some(digits) = line.strip_prefix(b"M ") {
+            return self.take_moved(digits);
+        }
         self.failed = match line {
             b"! read" => Some(Call::Read),
             b"! program" | b"! erase" => Some(Call::Change),
             _ => return Err(Stop::Bad(Why::Line)),
         };
         Ok(())
+    }
+
+    fn count_steps(&mut self, count: u32) {
+        self.steps = self.steps.saturating_add(u64::from(count));
+    }
+
+    /// The chip is scanned: each of its pages was read in a step.
+    fn scan(&mut self) {
+        if !self.is_scanned {
+            self.is_scanned = true;
+            self.count_steps(self.sizes.pages);
+        }
+    }
+
+    /// The collector moves a block, while a write has blocks to program.
+    fn take_moved(&mut self, digits: &[u8]) -> Result<(), Stop> {
+        let lba = decimal(digits)?;
+        self.failed = None;
+        match self.tasks.front() {
+            Some(task) if task.come() > 0 && !task.waits() && lba < self.sizes.units => Ok(()),
+            _ => Err(Stop::Bad(Why::Moved)),
+        }
     }
 
     fn take_host(&mut self, bytes: &[u8]) -> Result<(), Stop> {
@@ -483,10 +531,7 @@ impl Oracle {
     /// The first task takes data.
     fn take_data(&mut self, segment: &[u8]) -> Result<(), Stop> {
         if let Some(task) = self.tasks.front_mut() {
-            let before = task.come() / BLOCK_BYTES;
             task.come.extend_from_slice(segment)?;
-            let blocks = (task.come() / BLOCK_BYTES).saturating_sub(before);
-            self.blocks_come = self.blocks_come.saturating_add(u64::from(blocks));
         }
         Ok(())
     }
@@ -495,7 +540,7 @@ impl Oracle {
         match self.due.take() {
             Some(due) if due.as_slice() == bytes => {}
             Some(_) => return Err(Stop::Bad(Why::Reply)),
-            None => self.judge(bytes)?,
+            None => self.take_step(bytes)?,
         }
         self.failed = None;
         let upiu = Upiu::at(bytes);
@@ -507,6 +552,18 @@ impl Oracle {
                 Ok(())
             }
         }
+    }
+
+    /// A step sends these bytes. Where a call of the chip failed in it, it was counted with that call.
+    fn take_step(&mut self, bytes: &[u8]) -> Result<(), Stop> {
+        self.judge(bytes)?;
+        if self.failed.is_none() {
+            self.count_steps(1);
+        }
+        if !is_unscanned(bytes) {
+            self.scan();
+        }
+        Ok(())
     }
 
     /// Whether a step may send these bytes for the first task.
@@ -598,10 +655,8 @@ impl Oracle {
         let has_cause = match command {
             Command::Read { .. } if sense == UNREAD => self.failed == Some(Call::Read),
             Command::Write { .. } if sense == UNPROGRAMMED => self.failed.is_some(),
-            Command::Write { .. } if sense == NO_PAGE => {
-                self.blocks_come > u64::from(self.sizes.pages)
-            }
-            _ if sense == (0x4, 0x44) => false,
+            Command::Write { .. } if sense == NO_NUMBER => false,
+            _ if sense == UNSCANNED => self.failed == Some(Call::Read) && !self.is_scanned,
             _ => return Err(Stop::Bad(Why::Sent)),
         };
         if has_cause {
@@ -651,6 +706,9 @@ impl Oracle {
         let Command::Write { lba, .. } = task.command else {
             return Ok(());
         };
+        if is_good {
+            self.count_steps(task.come() / BLOCK_BYTES);
+        }
         let mut place = self.place(&task, lba);
         for block in task.come.chunks_exact(BLOCK) {
             self.put_block(place, block, is_good)?;
@@ -671,6 +729,11 @@ impl Oracle {
     }
 }
 
+/// Whether these bytes end a task because the chip isn't scanned.
+fn is_unscanned(bytes: &[u8]) -> bool {
+    byte(bytes, 0) == 0x21 && (byte(bytes, 36), byte(bytes, 46)) == UNSCANNED
+}
+
 /// Whether a task may ask for data by these bytes.
 fn judge_ask(task: &Task, bytes: &[u8]) -> Result<(), Stop> {
     let lacks = task.command.taken().saturating_sub(task.asked);
@@ -682,30 +745,29 @@ fn judge_ask(task: &Task, bytes: &[u8]) -> Result<(), Stop> {
     Err(Stop::Bad(Why::Sent))
 }
 
-/// What is found of the transcript of a device of these sizes.
-pub fn judge(alloc: Global, sizes: Sizes, text: &[u8]) -> Result<Verdict, Fail> {
+/// What is found of the transcript of a device of these sizes, and how many steps it shows at least.
+pub fn judge(alloc: Global, sizes: Sizes, text: &[u8]) -> Result<(Verdict, u64), Fail> {
     let Ok(mut oracle) = Oracle::new(alloc, sizes) else {
         return Err(NoMemory.into());
     };
     if text.is_empty() {
-        return Ok(Verdict::Sound { rests: true });
+        return Ok((Verdict::Sound { rests: true }, 0));
     }
     let mut line_number = 1usize;
     let lines = text.strip_suffix(b"\n").unwrap_or(text);
     for line in lines.split(|byte| *byte == b'\n') {
         match oracle.take_line(line) {
             Ok(()) => {}
-            Err(Stop::Bad(why)) => return Ok(Verdict::Bad(line_number, why)),
+            Err(Stop::Bad(why)) => return Ok((Verdict::Bad(line_number, why), oracle.steps)),
             Err(Stop::Memory) => return Err(NoMemory.into()),
         }
         line_number = line_number.saturating_add(1);
     }
     if oracle.due.is_some() {
-        return Ok(Verdict::Bad(line_number, Why::Reply));
+        return Ok((Verdict::Bad(line_number, Why::Reply), oracle.steps));
     }
-    Ok(Verdict::Sound {
-        rests: oracle.rests(),
-    })
+    let rests = oracle.rests();
+    Ok((Verdict::Sound { rests }, oracle.steps))
 }
 
 /// A write, the data that it asks for, and their read.
@@ -735,7 +797,7 @@ const NOP: &str = "> 00000008 z z z z z z z";
 const WRITE_FAILED: &str =
     "< 21000002 00000102 00000014 z z z z z 00127000 03000000 000a0000 00000c00 z";
 
-const NO_PAGE_LEFT: &str =
+const NO_NUMBER_LEFT: &str =
     "< 21000002 00000102 00000014 z z z z z 00127000 07000000 000a0000 00002700 z";
 
 /// A read that ends with these.
@@ -757,7 +819,8 @@ fn judge_lines(alloc: Global, lines: &[&str]) -> Result<Verdict, Fail> {
         units: 20,
         pages: 32,
     };
-    judge(alloc, sizes, &text)
+    let (verdict, _) = judge(alloc, sizes, &text)?;
+    Ok(verdict)
 }
 
 /// Sound, where all is done that can be done without the host, and where something can go on.
@@ -766,7 +829,7 @@ const RESTS: Verdict = Verdict::Sound { rests: true };
 const GOES_ON: Verdict = Verdict::Sound { rests: false };
 
 /// Transcripts, and what is found of each.
-const JUDGED: [(&[&str], Verdict); 36] = [
+const JUDGED: [(&[&str], Verdict); 44] = [
     (&[], RESTS),
     (&[WRITE], GOES_ON),
     (&[WRITE, ASKED], RESTS),
@@ -784,6 +847,11 @@ const JUDGED: [(&[&str], Verdict); 36] = [
         GOES_ON,
     ),
     (&[READ, "! read", READ_FAILED], RESTS),
+    // The chip fails while it is scanned, once under a task.
+    (&["! read", READ, "! read", CHIP_FAILED], RESTS),
+    // The collector makes room for a write.
+    (&[WRITE, ASKED, DATA, "M 0", "M 19", WRITTEN], RESTS),
+    (&[WRITE, ASKED, DATA, "M 0", "! erase", WRITE_FAILED], RESTS),
     (&[NOP, "< 20000008 z z z z z z z"], RESTS),
     // More is expected than is moved.
     (
@@ -837,13 +905,22 @@ const JUDGED: [(&[&str], Verdict); 36] = [
         &[READ, "! read", WRITE, READ_FAILED],
         Verdict::Bad(4, Why::Cause),
     ),
-    (&[READ, "! read", CHIP_FAILED], Verdict::Bad(3, Why::Cause)),
+    (&[READ, CHIP_FAILED], Verdict::Bad(2, Why::Cause)),
+    // The chip was scanned before.
+    (
+        &[READ, ZEROS, ENDED, READ, "! read", CHIP_FAILED],
+        Verdict::Bad(6, Why::Cause),
+    ),
+    // A block is moved where no write has blocks to program, and outside the unit.
+    (&[WRITE, ASKED, "M 0"], Verdict::Bad(3, Why::Moved)),
+    (&[READ, "M 0"], Verdict::Bad(2, Why::Moved)),
+    (&[WRITE, ASKED, DATA, "M 20"], Verdict::Bad(4, Why::Moved)),
     (
         &[WRITE, ASKED, DATA, WRITE_FAILED],
         Verdict::Bad(4, Why::Cause),
     ),
     (
-        &[WRITE, ASKED, DATA, NO_PAGE_LEFT],
+        &[WRITE, ASKED, DATA, NO_NUMBER_LEFT],
         Verdict::Bad(4, Why::Cause),
     ),
     // A reply that is missing, at the end too, or another.
@@ -869,6 +946,7 @@ const JUDGED: [(&[&str], Verdict); 36] = [
     (&["E line 1"], Verdict::Bad(1, Why::Line)),
     (&["> 0"], Verdict::Bad(1, Why::Line)),
     (&["> 0F"], Verdict::Bad(1, Why::Line)),
+    (&["M 00"], Verdict::Bad(1, Why::Line)),
 ];
 
 #[test]

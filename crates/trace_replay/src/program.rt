@@ -2,6 +2,7 @@ ghost use Rattle.std.specs.Prelude.{IsTrue, false, ◌≡◌, ◌≤◌, ◌⊎�
 ghost use Rattle.flash_pages.specs.Chip.{erased_chip};
 ghost use Rattle.std.specs.Io.KnownBytes.{Appends, IsAtEnd, prepend_known};
 ghost use Rattle.hpb_device.specs.Standing.{sizes_of};
+ghost use Rattle.hpb_device.specs.State.{IsSound};
 ghost use Rattle.trace_replay.specs.Run.{CountsFault, EndsLong, Finishes, IsLeft, IsPlanned, ProgramIs, RunIs, SinkEnds, SourceEnds, bad_line_text};
 ghost use Rattle.trace_replay.specs.Showing.{ShowProgramIs};
 ghost use Rattle.trace_replay.specs.ByText.{is_shown_line, is_trace_line};
@@ -195,6 +196,8 @@ fn replay<S: Source, K: Sink, F: Flash>(
     requires begun { device.old.tasks ≡ [] }
     requires uncounted { device.old.counts.erased ≡ 0 }
     requires erased { device.old.store.pages ≡ erased_chip device.old.store.geometry }
+    requires sound { IsSound device.old }
+    requires scanned { device.old.store.scanned ≡ 0 }
     requires some_page { 1 ≤ device.old.store.geometry.pages }
     requires unread { buffers.old.reader ≡ record { held = []; ended = false } }
     requires fresh { buffers.old.output ≡ [] }

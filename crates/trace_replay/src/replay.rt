@@ -1,9 +1,9 @@
-ghost use Rattle.std.specs.Prelude.{IsTrue, false, ◌≡◌, ◌≤◌, ◌⊎◌, ◌+◌, ◌++◌, length, flat_map, [], None, IfOk, OnOk};
+ghost use Rattle.std.specs.Prelude.{IsTrue, false, ◌≡◌, ◌<◌, ◌≤◌, ◌⊎◌, ◌^◌, ◌+◌, ◌++◌, ℕ, length, flat_map, [], None, Some, IfOk, OnOk};
 ghost use Rattle.hex.specs.Hex.{IsBytes};
 ghost use Rattle.flat_unit.specs.Print.{line_of};
-ghost use Rattle.flat_unit.specs.Replays.{events_of};
+ghost use Rattle.flat_unit.specs.Replays.{events_of, failed_events, moved_events};
 ghost use Rattle.flat_unit.specs.Trace.{Upiu, Steps, Drain};
-ghost use Rattle.hpb_device.specs.Standing.{group_of};
+ghost use Rattle.hpb_device.specs.Standing.{group_of, place_moved};
 ghost use Rattle.trace_text.specs.Grammar.{line_said, room_taken};
 ghost use Rattle.trace_replay.specs.Moments.{Serves, TurnServes};
 ghost use Rattle.std.specs.Io.KnownBytes.{IsAtEnd, prepend_known};
@@ -13,7 +13,7 @@ ghost use Rattle.hpb_outside.specs.Faults.{HasCause};
 ghost use Rattle.trace_text.specs.Lines.{HoldsLine, IsWithinLine};
 
 use crate::output::Output;
-use flash_pages::Flash;
+use flash_pages::{ChipOp, Flash};
 use flat_unit::Event;
 use hpb_device::{Device, Sent, Stepped, Waits};
 use hpb_outside::{Failed, NoMemory, Sink, Source};
@@ -80,16 +80,38 @@ pub(crate) fn make_room<K: Sink>(output: &mut Output, sink: &mut K) -> Result<()
     output.flush(sink)
 }
 
+/// Adds the line of a call of the chip that failed, if one did.
+fn push_failed(failed: Option<ChipOp>, output: &mut Output)
+    requires room { length output.old + 139520 ≤ 262144 }
+    ensures text { output.new ≡ output.old ++ flat_map line_of (failed_events failed) }
+    ensures few { length output.new ≤ length output.old + 10 }
+{
+    if let Some(op) = failed {
+        output.push_event(&Event::Failed(op));
+    }
+}
+
+/// Adds the line of a block that the collector moved, if it moved one.
+fn push_moved(moved: Option<(u8, u32)>, output: &mut Output)
+    requires room { length output.old + 139510 ≤ 262144 }
+    ensures text { output.new ≡ output.old ++ flat_map line_of (moved_events (place_moved moved)) }
+    ensures few { length output.new ≤ length output.old + 17 }
+    ensures small { (place : ℕ × ℕ) → moved ≡ Some place → (place.0 < 2 ^ 8) × (place.1 < 2 ^ 32) }
+{
+    if let Some((lun, lba)) = moved {
+        output.push_event(&Event::Moved(lun, lba));
+    }
+}
+
 /// Adds the lines of a step.
 fn push_step(stepped: Stepped, upiu: &UpiuBuf, output: &mut Output)
     requires room { length output.old + 139520 ≤ 262144 }
-    requires still { stepped.moved ≡ None }
     ensures text { output.new ≡ output.old ++ flat_map line_of (events_of (group_of stepped upiu.now)) }
     ensures bytes { IsTrue stepped.sent → IsBytes upiu.now × (length upiu.now ≤ 4128) }
+    ensures small { (place : ℕ × ℕ) → stepped.moved ≡ Some place → (place.0 < 2 ^ 8) × (place.1 < 2 ^ 32) }
 {
-    if let Some(op) = stepped.failed {
-        output.push_event(&Event::Failed(op));
-    }
+    push_failed(stepped.failed, output);
+    push_moved(stepped.moved, output);
     if stepped.sent {
         output.push_upiu(b'<', upiu.bytes());
     }

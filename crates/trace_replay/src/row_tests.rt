@@ -13,14 +13,22 @@ const UNWRITTEN: [(&str, &str); 2] = [
     ),
 ];
 
-/// The data of a write, and no page is left.
-const NO_PAGE: [(&str, &str); 2] = [
-    ("U 02000002 z 00001000 z 00001000 z z z block", ""),
+/// The chip fails while its last page is scanned: the write is gone, and that page is read under the next task.
+const UNSCANNED: [(&str, &str); 7] = [
+    ("S 31", ""),
+    ("U 01200002 z z 00001000 2a000000 z 01000000 z", ""),
     (
-        "D",
-        "< 21000002 00000102 00000014 z z z z z 00127000 07000000 000a0000 00002700 z",
+        "S 1",
+        "! read / < 21200002 00000102 00000014 00001000 z z z z 00127000 04000000 000a0000 00004400 z",
     ),
+    ("U 01400003 z z 00001000 28000000 z 01000000 z", ""),
+    ("S 1", ""),
+    ("S 1", "< 22000003 z 00001000 z 00001000 z z z zeros"),
+    ("D", "< 21000003 z z z z z z z"),
 ];
+
+/// The chip fails while its first page is scanned, without a task.
+const UNSCANNED_ALONE: [(&str, &str); 1] = [("S 1", "! read")];
 
 /// The data of a write, and the chip fails.
 const UNPROGRAMMED: [(&str, &str); 2] = [
@@ -161,12 +169,14 @@ const WRONG_COUNT: [(&str, &str); 1] = [(
     "< 21200002 00000102 00000014 00001000 z z z z 00127000 0b000000 000a0000 00004b00 z",
 )];
 
-/// A block is written by steps. Where the write waits for its data a step does nothing.
-const WRITTEN_BY_STEPS: [(&str, &str); 7] = [
-    ("S 5", ""),
+/// A block is written by steps, once 32 of them have scanned the chip. Where the write waits for its data a step does
+/// nothing.
+const WRITTEN_BY_STEPS: [(&str, &str); 8] = [
+    ("S 31", ""),
     ("U 01200002 z z 00001000 2a000000 z 01000000 z", ""),
-    ("S 3", "< 31000002 z z z 00001000 z z z"),
     ("S 1", ""),
+    ("S 1", "< 31000002 z z z 00001000 z z z"),
+    ("S 4", ""),
     ("U 02000002 z 00001000 z 00001000 z z z block", ""),
     ("S 1", ""),
     ("S 999999", "< 21000002 z z z z z z z"),
@@ -240,8 +250,8 @@ const WRONG_OFFSET: [(&str, &str); 5] = [
     ),
 ];
 
-/// Three blocks are written, and are read twice. The fifth call of the chip fails.
-const FIFTH_CALL: [(&str, &str); 8] = [
+/// Three blocks are written, and are read twice. The second read of the chip fails.
+const SECOND_READ: [(&str, &str); 8] = [
     ("U 01200002 z z 00003000 2a000000 z 03000000 z", ""),
     ("D", "< 31000002 z z z 00003000 z z z"),
     (
@@ -262,10 +272,11 @@ const FIFTH_CALL: [(&str, &str); 8] = [
 ];
 
 /// Tasks are ended in the order in which they came.
-const IN_ORDER: [(&str, &str); 6] = [
+const IN_ORDER: [(&str, &str); 7] = [
     ("U 01400001 z z 00000008 25000000 z z z", ""),
     ("U 01400002 z z z z z z z", ""),
     ("U 01400003 z z z 35000000 z z z", ""),
+    ("S 32", ""),
     (
         "S 1",
         "< 22000001 z 00000008 z 00000008 z z z 00000013 00001000",
@@ -274,14 +285,90 @@ const IN_ORDER: [(&str, &str); 6] = [
     ("D", "< 21000002 z z z z z z z / < 21000003 z z z z z z z"),
 ];
 
+/// All blocks of the unit are written.
+const FILLED: [(&str, &str); 8] = [
+    ("U 01200002 z z 00014000 2a000000 z 14000000 z", ""),
+    ("D", "< 31000002 z z z 00008000 z z z"),
+    (
+        "U 02000002 z 00008000 z 00008000 z z z block block block block block block block block",
+        "",
+    ),
+    ("D", "< 31000002 z z 00008000 00008000 z z z"),
+    (
+        "U 02000002 z 00008000 00008000 00008000 z z z block block block block block block block block",
+        "",
+    ),
+    ("D", "< 31000002 z z 00010000 00004000 z z z"),
+    (
+        "U 02000002 z 00004000 00010000 00004000 z z z block block block block",
+        "",
+    ),
+    ("D", "< 21000002 z z z z z z z"),
+];
+
+/// Writes of other blocks are asked for their data.
+const ASKED_4: [(&str, &str); 2] = [
+    ("U 01200002 z z 00001000 2a000000 00040000 01000000 z", ""),
+    ("D", "< 31000002 z z z 00001000 z z z"),
+];
+
+const ASKED_8: [(&str, &str); 2] = [
+    ("U 01200002 z z 00001000 2a000000 00080000 01000000 z", ""),
+    ("D", "< 31000002 z z z 00001000 z z z"),
+];
+
+const ASKED_12: [(&str, &str); 2] = [
+    ("U 01200002 z z 00001000 2a000000 000c0000 01000000 z", ""),
+    ("D", "< 31000002 z z z 00001000 z z z"),
+];
+
+const ASKED_16: [(&str, &str); 2] = [
+    ("U 01200002 z z 00001000 2a000000 00100000 01000000 z", ""),
+    ("D", "< 31000002 z z z 00001000 z z z"),
+];
+
+/// The data of a write, for which the collector moves a block.
+const MOVED: [(&str, &str); 2] = [
+    ("U 02000002 z 00001000 z 00001000 z z z block", ""),
+    ("D", "M 12 / < 21000002 z z z z z z z"),
+];
+
 /// No call of the chip has this number.
 const NONE: u64 = 1000;
 
 /// The name of a row, how often a block is written first, its tables, and the number of the call of the chip that fails.
-const ROWS: [(&str, usize, &[&[(&str, &str)]], u64); 15] = [
+const ROWS: [(&str, usize, &[&[(&str, &str)]], u64); 19] = [
     ("nothing", 0, &[], NONE),
     ("never written", 0, &[&UNWRITTEN], NONE),
-    ("full", 32, &[&ASKED, &NO_PAGE, &READ_BACK], NONE),
+    ("more writes than pages", 33, &[&READ_BACK], NONE),
+    (
+        "written anew again and again",
+        0,
+        &[&FILLED, &FILLED, &FILLED, &FILLED, &FILLED, &READ_BACK],
+        NONE,
+    ),
+    (
+        "moved block",
+        0,
+        &[
+            &FILLED, &ASKED, &GIVEN, &ASKED_4, &GIVEN, &ASKED_8, &GIVEN, &ASKED_12, &GIVEN,
+            &ASKED_16, &GIVEN, &ASKED, &GIVEN, &ASKED_4, &GIVEN, &ASKED_8, &GIVEN, &ASKED_12,
+            &MOVED, &READ_BACK,
+        ],
+        NONE,
+    ),
+    (
+        "failed scan",
+        0,
+        &[&UNSCANNED, &ASKED, &GIVEN, &READ_BACK],
+        32,
+    ),
+    (
+        "failed scan without a task",
+        0,
+        &[&UNSCANNED_ALONE, &WRITTEN_BY_STEPS, &STEPPED],
+        1,
+    ),
     (
         "failed program",
         0,
@@ -293,9 +380,9 @@ const ROWS: [(&str, usize, &[&[(&str, &str)]], u64); 15] = [
             &GIVEN,
             &READ_BACK,
         ],
-        1,
+        33,
     ),
-    ("failed read", 1, &[&UNREAD, &READ_BACK], 2),
+    ("failed read", 1, &[&UNREAD, &READ_BACK], 34),
     ("at rest", 0, &[&ANSWERED, &CHECKED], NONE),
     (
         "while a write waits",
@@ -323,7 +410,7 @@ const ROWS: [(&str, usize, &[&[(&str, &str)]], u64); 15] = [
     ("nine blocks", 0, &[&NINE_BLOCKS], NONE),
     ("at the end", 0, &[&AT_THE_END], NONE),
     ("wrong offset", 0, &[&WRONG_OFFSET], NONE),
-    ("fifth call", 0, &[&FIFTH_CALL], 5),
+    ("second read", 0, &[&SECOND_READ], 37),
     ("in order", 0, &[&IN_ORDER], NONE),
 ];
 

@@ -99,9 +99,10 @@ fn one_block(alloc: Global) -> Result<Script, Fail> {
     Ok(script)
 }
 
-/// What a run meets: where reads end early, and which calls fail, by their numbers from 1.
+/// What a run meets: its chip, where reads end early, and which calls fail, by their numbers from 1.
 #[derive(Drop)]
 pub struct Outside {
+    pub chip: Geometry,
     cuts: Vec<u64>,
     reads: Vec<u64>,
     writes: Vec<u64>,
@@ -113,6 +114,7 @@ impl Outside {
     /// Nothing fails, and there is room for all.
     pub fn faultless(alloc: Global) -> Outside {
         Outside {
+            chip: CHIP,
             cuts: Vec::new(alloc),
             reads: Vec::new(alloc),
             writes: Vec::new(alloc),
@@ -159,6 +161,7 @@ pub fn words_of(alloc: Global, text: &str) -> Result<Vec<String>, Fail> {
 pub fn run_words(alloc: Global, words: &str, text: &[u8], outside: Outside) -> Result<Ran, Fail> {
     let names = words_of(alloc, words)?;
     let Outside {
+        chip,
         cuts,
         reads,
         writes,
@@ -167,7 +170,7 @@ pub fn run_words(alloc: Global, words: &str, text: &[u8], outside: Outside) -> R
     } = outside;
     let mut source = MemSource::new(text.to_vec(alloc)?, cuts, reads);
     let mut sink = MemSink::new(alloc, room, writes)?;
-    let flash = MemFlash::new(alloc, CHIP, calls)?;
+    let flash = MemFlash::new(alloc, chip, calls)?;
     let outcome = run(alloc, &names, &mut source, &mut sink, flash);
     Ok(Ran {
         status: outcome.status,

@@ -13,7 +13,7 @@ pub fn push_words(out: &mut Vec<u8>, words: &str) -> Result<(), Fail> {
             "zeros" => push_block(out, b"00")?,
             "block" => push_block(out, b"a5")?,
             "/" => out.push(b'\n')?,
-            "U" | "S" | "C" | ">" | "<" | "!" => {
+            "U" | "S" | "C" | "M" | ">" | "<" | "!" => {
                 out.extend_from_slice(word.as_bytes())?;
                 out.push(b' ')?;
             }

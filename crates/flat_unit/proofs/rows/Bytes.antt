@@ -17,7 +17,6 @@ sizes = record {
   erase_block = 4;
   per_region = 128;
   per_sub = 32;
-  full_at = 0x4000000000000000;
   opcodes = 0x00 ∷ 0x25 ∷ 0x28 ∷ 0x2A ∷ 0x35 ∷ 0xF8 ∷ 0xF9 ∷ 0xFA ∷ [];
   queries = true;
   manages = true;

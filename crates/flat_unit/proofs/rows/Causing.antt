@@ -12,7 +12,7 @@ use Rattle.flat_unit.specs.Reply.{reply_of, effects_of}
 use Rattle.flat_unit.specs.Sends.{Data, Check}
 use Rattle.flat_unit.specs.Senses.{read_failed}
 use Rattle.flat_unit.specs.Sound.{Sound}
-use Rattle.flat_unit.proofs.Steps.{cause_foreign, cause_number, cause_read, cause_write}
+use Rattle.flat_unit.proofs.standing.OneCall.{cause_foreign, cause_number, cause_read, cause_write}
 use Rattle.flat_unit.proofs.rows.Bytes.{sizes, block_of, blank_unit, read, write, test_ready, data_in, data_out, ready, check_with}
 
 -- one block was sent, then a call failed

@@ -1,5 +1,5 @@
 -- Lists of entries: what READ BUFFER lists, what a prefetch keeps, and what is counted of reads with entries.
-use Rattle.std.proofs.Common.{zero, suc, ◌+◌, ◌-◌, ◌*◌, Bool, ◌&&◌, ◌==◌, sym, subst, nat_le, slice_range, None, ◌≡◌, ℕ, true, false, List, [], ◌∷◌, ◌++◌, Some, refl, arith, replicate}
+use Rattle.std.proofs.Common.{Option, zero, suc, ◌+◌, ◌-◌, ◌*◌, Bool, ◌&&◌, ◌==◌, sym, subst, nat_le, slice_range, None, ◌≡◌, ℕ, true, false, List, [], ◌∷◌, ◌++◌, Some, refl, arith, replicate}
 use Rattle.std.specs.Prelude.{if◌then◌else◌}
 use Rattle.std.proofs.lemmas.Bool.Decides.{nat_tests}
 use Rattle.byteorder.specs.Endian.{big_number}
@@ -156,7 +156,10 @@ unfolding reply_of effects_of wire_fault_of upiu_at kind_of cdb_of
 one_stretch = (refl, refl)
 
 -- an entry that is cut isn't listed
-cut_entry : listed small (tasks_after small ([] ▹ Host (read_buffer 7 0 0 12))) (Device (four 0x22 0 0 7 ++ z ++ four 0 0 0 12 ++ z ++ number 12 ++ z ++ z ++ z ++ entry 5 ++ number 0)) (place 1) ≡ None
+abbrev half_entry : List ℕ
+half_entry = four 0x22 0 0 7 ++ z ++ four 0 0 0 12 ++ z ++ number 12 ++ z ++ z ++ z ++ entry 5 ++ number 0
+
+cut_entry : listed small (tasks_after small ([] ▹ Host (read_buffer 7 0 0 12))) (Device half_entry) (place 1) ≡ None
 unfolding reply_of wire_fault_of upiu_at kind_of cdb_of
 cut_entry = refl
 
@@ -189,11 +192,13 @@ unfolding reply_of wire_fault_of upiu_at kind_of cdb_of
 number_told p zero = refl
 number_told p (suc k) =
     let outside : nat_le (8 * suc k + 8) 8 ≡ false = grind (arith, nat_tests) in
-    subst (λ (b : Bool). TellsEntry small 32 (λ _. false) ([] ▹ Host (read_buffer 7 2 1 16)) p (if nat_le 0 (8 * suc k) && b then Some (big_number 8 (slice_range all_none (8 * suc k - 0) (8 * suc k - 0 + 8))) else None)) (sym outside)
+    subst (λ (b : Bool). TellsEntry small 32 (λ _. false) ([] ▹ Host (read_buffer 7 2 1 16)) p (entry_where (nat_le 0 (8 * suc k) && b))) (sym outside)
     (none_there (nat_le 0 (8 * suc k)))
   where
-    none_there : (b : Bool)
-        → TellsEntry small 32 (λ _. false) ([] ▹ Host (read_buffer 7 2 1 16)) p (if b && false then Some (big_number 8 (slice_range all_none (8 * suc k - 0) (8 * suc k - 0 + 8))) else None)
+    entry_where : Bool → Option ℕ
+    entry_where b = if b then Some (big_number 8 (slice_range all_none (8 * suc k - 0) (8 * suc k - 0 + 8))) else None
+
+    none_there : (b : Bool) → TellsEntry small 32 (λ _. false) ([] ▹ Host (read_buffer 7 2 1 16)) p (entry_where (b && false))
     none_there true = tt
     none_there false = tt
 

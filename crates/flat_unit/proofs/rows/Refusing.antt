@@ -1,5 +1,5 @@
 -- What is answered at once: bytes that are no UPIU, commands that are refused, and data that weren't asked for.
-use Rattle.std.proofs.Common.{◌∷◌, ◌≡◌, ℕ, zero, suc, [], ◌++◌, refl, arith, replicate}
+use Rattle.std.proofs.Common.{List, ◌∷◌, ◌≡◌, ℕ, zero, suc, [], ◌++◌, refl, arith, replicate}
 use Rattle.flat_unit.specs.declared.event.Event.TheVariants.{Host, Device}
 use Rattle.hpb_cdb.specs.Read.{cdb_of}
 use Rattle.upiu_wire.specs.Kind.{kind_of}
@@ -8,7 +8,7 @@ use Rattle.upiu_wire.specs.WireFault.{wire_fault_of}
 use Rattle.flat_unit.specs.History.{History, ◌▹◌}
 use Rattle.flat_unit.specs.Reply.{reply_of, effects_of}
 use Rattle.flat_unit.specs.Sends.{Data, Ask, Good}
-use Rattle.flat_unit.specs.Sound.{Sound, owed}
+use Rattle.flat_unit.specs.Sound.{SoundSoFar, Sound, owed}
 use Rattle.flat_unit.proofs.rows.Bytes.{sizes, block_of, blank_unit, differ_at, z, four, read, write, test_ready, data_in, data_out, ready, good, good_short, check_with, reject}
 
 -- reads at the end of the unit: in range, past it, of no blocks, and of none past it
@@ -81,9 +81,13 @@ abbrev commands : ℕ → History
 commands zero = []
 commands (suc n) = commands n ▹ Host (test_ready n)
 
+sixteen_kept : SoundSoFar sizes blank_unit (commands 16)
+unfolding reply_of effects_of wire_fault_of upiu_at upiu_out kind_of cdb_of
+sixteen_kept = ((((((((((((((((tt, tt), tt), tt), tt), tt), tt), tt), tt), tt), tt), tt), tt), tt), tt), tt), tt)
+
 full : Sound sizes blank_unit (commands 32 ▹ Host (test_ready 4) ▹ Device (reject 0 4 8) ▹ Host (test_ready 40) ▹ Device (four 0x21 0 0 40 ++ four 0 0 0x01 0x28 ++ replicate 24 0))
 unfolding reply_of effects_of wire_fault_of upiu_at upiu_out kind_of cdb_of
-full = record { so_far = ((((((((((((((((((((((((((((((((((((tt, tt), tt), tt), tt), tt), tt), tt), tt), tt), tt), tt), tt), tt), tt), tt), tt), tt), tt), tt), tt), tt), tt), tt), tt), tt), tt), tt), tt), tt), tt), tt), tt), tt), refl), tt), refl); nothing_owed = refl }
+full = record { so_far = ((((((((((((((((((((sixteen_kept, tt), tt), tt), tt), tt), tt), tt), tt), tt), tt), tt), tt), tt), tt), tt), tt), tt), refl), tt), refl); nothing_owed = refl }
 
 -- data at another offset end the write; a read that expects more than it moves says so
 abbrev wrong_offset : History
@@ -141,7 +145,10 @@ short_length : Sound sizes blank_unit ([] ▹ Host (read 4 0xFFF 0 1) ▹ Device
 unfolding reply_of effects_of wire_fault_of upiu_at upiu_out kind_of cdb_of
 short_length = record { so_far = ((tt, tt), refl); nothing_owed = refl }
 
-other_unit : Sound sizes blank_unit ([] ▹ Host (four 0x01 0 1 4 ++ replicate 28 0) ▹ Device (four 0x21 0 1 4 ++ four 0 0 0x01 0x02 ++ four 0 0 0 0x14 ++ replicate 20 0 ++ four 0 0x12 0x70 0 ++ four 0x05 0 0 0 ++ four 0 0x0A 0 0 ++ four 0 0 0x25 0 ++ z))
+abbrev no_such_unit : List ℕ
+no_such_unit = four 0x21 0 1 4 ++ four 0 0 0x01 0x02 ++ four 0 0 0 0x14 ++ replicate 20 0 ++ four 0 0x12 0x70 0 ++ four 0x05 0 0 0 ++ four 0 0x0A 0 0 ++ four 0 0 0x25 0 ++ z
+
+other_unit : Sound sizes blank_unit ([] ▹ Host (four 0x01 0 1 4 ++ replicate 28 0) ▹ Device no_such_unit)
 unfolding reply_of effects_of wire_fault_of upiu_at upiu_out kind_of cdb_of
 other_unit = record { so_far = ((tt, tt), refl); nothing_owed = refl }
 

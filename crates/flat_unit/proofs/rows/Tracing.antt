@@ -60,7 +60,8 @@ looks (suc n) below = (looked n, looks n (omega arith), quiet_step (looked n) (n
 zeros_read_replays : Replays sizes (Upiu (read 1 4096 5 1) ∷ Drain ∷ []) begun ended
 unfolding reply_of effects_of wire_fault_of upiu_at upiu_out kind_of cdb_of
 zeros_read_replays =
-    let block : StepsTo sizes 33 at_command block_sent = (looked 32, looks 32 (omega arith), record { group = sends (data_in 1 0 (block_of 0)); is_group = inr refl; timely = λ none. cc; leads = refl }) in
+    let sent : StepTo sizes (looked 32) block_sent = record { group = sends (data_in 1 0 (block_of 0)); is_group = inr refl; timely = λ none. cc; leads = refl } in
+    let block : StepsTo sizes 33 at_command block_sent = (looked 32, looks 32 (omega arith), sent) in
     let all : StepsTo sizes 34 at_command ended = (block_sent, block, record { group = sends (good 1); is_group = inr refl; timely = λ none. cc; leads = refl }) in
     (at_command, refl, (ended, record { count = 34; few = omega arith; steps = all; rests = refl }, refl))
 

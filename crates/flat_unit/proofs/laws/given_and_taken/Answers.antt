@@ -1,4 +1,4 @@
-use Rattle.flat_unit.proofs.Subject.{moves_needed}
+use Rattle.flat_unit.proofs.contents.Blocks.{moves_needed}
 use Rattle.flat_unit.proofs.laws.given_and_taken.Goals as goal
 
 pub returns : goal.returns

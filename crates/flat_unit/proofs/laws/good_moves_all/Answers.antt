@@ -1,4 +1,4 @@
-use Rattle.flat_unit.proofs.Subject.{good_moved}
+use Rattle.flat_unit.proofs.queue.Ends.{good_moved}
 use Rattle.flat_unit.proofs.laws.good_moves_all.Goals as goal
 
 pub returns : goal.returns

@@ -1,4 +1,4 @@
-use Rattle.flat_unit.proofs.Queue.{queue_after}
+use Rattle.flat_unit.proofs.queue.Tasks.{queue_after}
 use Rattle.flat_unit.proofs.laws.kept_tasks.Goals as goal
 
 pub returns : goal.returns

@@ -1,4 +1,4 @@
-use Rattle.flat_unit.proofs.Subject.{first_ends}
+use Rattle.flat_unit.proofs.queue.Ends.{first_ends}
 use Rattle.flat_unit.proofs.laws.order_of_ends.Goals as goal
 
 pub returns : goal.returns

@@ -1,4 +1,4 @@
-use Rattle.flat_unit.proofs.Subject.{nothing_changes}
+use Rattle.flat_unit.proofs.contents.Blocks.{nothing_changes}
 use Rattle.flat_unit.proofs.laws.other_events_change_no_block.Goals as goal
 
 pub returns : goal.returns

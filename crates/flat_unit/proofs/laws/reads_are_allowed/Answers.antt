@@ -1,4 +1,4 @@
-use Rattle.flat_unit.proofs.Reading.{reads_allowed}
+use Rattle.flat_unit.proofs.contents.ReadsEnd.{reads_allowed}
 use Rattle.flat_unit.proofs.laws.reads_are_allowed.Goals as goal
 
 pub returns : goal.returns

@@ -1,4 +1,4 @@
-use Rattle.flat_unit.proofs.Rejecting.{rejected, rejection}
+use Rattle.flat_unit.proofs.replies.Rejects.{rejected, rejection}
 use Rattle.flat_unit.proofs.laws.rejects_what_is_no_upiu.Goals as goal
 
 pub returns-clause-all : goal.returns-clause-all

@@ -1,4 +1,4 @@
-use Rattle.flat_unit.proofs.Subject.{shown_alone}
+use Rattle.flat_unit.proofs.contents.Blocks.{shown_alone}
 use Rattle.flat_unit.proofs.laws.shown_block_stands_alone.Goals as goal
 
 pub returns : goal.returns

@@ -1,4 +1,4 @@
-use Rattle.flat_unit.proofs.Subject.{some_candidate}
+use Rattle.flat_unit.proofs.contents.Blocks.{some_candidate}
 use Rattle.flat_unit.proofs.laws.some_block_is_allowed.Goals as goal
 
 pub returns : goal.returns

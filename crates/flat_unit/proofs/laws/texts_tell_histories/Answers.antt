@@ -1,4 +1,4 @@
-use Rattle.flat_unit.proofs.Printing.{print_injective}
+use Rattle.flat_unit.proofs.printing.Texts.{print_injective}
 use Rattle.flat_unit.proofs.laws.texts_tell_histories.Goals as goal
 
 pub returns : goal.returns

@@ -3,7 +3,7 @@ use Rattle.upiu_wire.specs.declared.kind.Kind.TheVariants.{NopOut, Command, Data
 use Rattle.upiu_wire.specs.Upiu.{Upiu, upiu_at}
 use Rattle.upiu_wire.specs.WireFault.{wire_fault_of, number_of}
 use Rattle.flat_unit.specs.Harmless.{IsHarmless}
-use Rattle.flat_unit.proofs.Steps.{reject_harmless, nop_harmless}
+use Rattle.flat_unit.proofs.standing.OneCall.{reject_harmless, nop_harmless}
 use Rattle.hpb_device.specs.Reply.{reply_upiu}
 use Rattle.hpb_device.proofs.Harmless.{fault_harmless}
 use Rattle.upiu_wire.specs.Written.{blank_upiu, reject_upiu}

@@ -2,7 +2,7 @@ use Rattle.std.proofs.Common.{◌≡◌, ◌⊎◌, ℕ, ◌+◌, ◌-◌, ◌*�
 use Rattle.upiu_wire.specs.Upiu.{upiu_out}
 use Rattle.upiu_wire.specs.Written.{data_upiu}
 use Rattle.upiu_wire.specs.declared.kind.Kind.TheVariants.{DataIn}
-use Rattle.flat_unit.proofs.Listing.{length-entries_from}
+use Rattle.flat_unit.proofs.entries.Listed.{length-entries_from}
 use Rattle.hpb_device.specs.Advance.{entries_of, first_listed}
 use Rattle.hpb_device.proofs.Commands.{listed_whole}
 use Rattle.hpb_device.proofs.advance.list.Goals as goal
@@ -37,7 +37,7 @@ returns-clause-advances g c =
           task_is = refl;
         },
       ),
-      c.push_entries.ensures.pages,
+      c.push_entries.ensures.kept,
       c.clear.ensures.items,
     )
 

@@ -1,6 +1,7 @@
 use Rattle.std.proofs.Common.{◌≡◌, ◌-◌, ◌≤◌}
 use Rattle.std.specs.Prelude.{vec_capacity}
-use Rattle.hpb_device.specs.Advance.{IsSameStore, entries_of}
+use Rattle.flash_store.specs.Store.{IsSame, collecting}
+use Rattle.hpb_device.specs.Advance.{entries_of}
 use Rattle.hpb_device.specs.StoreCounts.{raised_times}
 use Rattle.hpb_device.proofs.advance.push_entries.Given as goal
 
@@ -9,8 +10,8 @@ abbrev pub invariant-loop-lba : goal.invariant-loop-lba
 invariant-loop-lba g l = record {
   entries : l.held.items ≡ entries_of l.fn.store.pages l.fn.lun l.fn.first (l.lba - l.fn.first);
   from : l.fn.first ≤ l.lba;
-  pages : l.store.pages ≡ l.fn.store.pages;
-  same : IsSameStore l.fn.store l.store;
+  kept : collecting l.store ≡ collecting l.fn.store;
+  same : IsSame l.fn.store l.store;
   calls : l.store.calls ≡ l.fn.store.calls;
   faults : l.store.faults ≡ l.fn.store.faults;
   lookups : l.store.lookups ≡ raised_times (l.lba - l.fn.first) l.fn.store.lookups;

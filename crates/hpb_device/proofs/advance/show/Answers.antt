@@ -49,7 +49,7 @@ returns-in-Err-clause-advances g c = λ held.
     let task = c.args.task in
     let due = reads_looked_up old task c.args.lba c.requires.untried c.requires.first c.in-Err.ensures.called in
     let rose : Rose old.faults new.faults = search rules in
-    (read_fails old new task c.check.result c.requires.reads (search rules) due rose c.check.ensures, search rules)
+    (read_fails old new task c.check.result c.requires.reads (search rules) c.requires.untried due rose (search rules) c.check.ensures, search rules)
 
 pub returns-in-Ok-clause-ok : goal.returns-in-Ok-clause-ok
 returns-in-Ok-clause-ok g c =
@@ -61,4 +61,4 @@ pub returns-in-Ok-clause-fewer : goal.returns-in-Ok-clause-fewer
 returns-in-Ok-clause-fewer g c =
     let task = c.args.task in
     let more : task.sent < task.given = search rules in
-    rw c.with_block.ensures (block_fewer c.args.store.now.luns c.args.limits task c.requires.task c.requires.reads more)
+    λ pages wait. rw c.with_block.ensures (block_fewer c.args.store.now.luns c.args.limits task c.requires.task c.requires.reads more pages wait)

@@ -46,7 +46,8 @@ pub returns-in-Ok-Some-clause-fewer : goal.returns-in-Ok-Some-clause-fewer
 returns-in-Ok-Some-clause-fewer g c =
     let task = c.args.task in
     let tries = tries_of c.args.limits task.command task c.requires.tries in
-    rw c.with_block.ensures (block_fewer c.args.store.now.luns c.args.limits task c.requires.task tries.reads (omega (arith, tries.none_sent, tries.some, c.requires.task.accepted.given)))
+    λ pages wait.
+    rw c.with_block.ensures (block_fewer c.args.store.now.luns c.args.limits task c.requires.task tries.reads (omega (arith, tries.none_sent, tries.some, c.requires.task.accepted.given)) pages wait)
 
 pub returns-in-Ok-None-clause-advances : goal.returns-in-Ok-None-clause-advances
 returns-in-Ok-None-clause-advances g c =

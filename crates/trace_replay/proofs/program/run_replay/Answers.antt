@@ -1,4 +1,6 @@
-use Rattle.std.proofs.Common.{◌∙◌, ap, refl, sym}
+use Rattle.std.proofs.Common.{◌≡◌, ◌≤◌, ◌∙◌, ap, arith, refl, sym}
+use Rattle.flash_pages.specs.Chip.{erased_chip}
+use Rattle.flash_pages.proofs.SoundChips.{ChipOk-erased}
 use Rattle.trace_text.specs.Lines.{ReaderState}
 use Rattle.region_state.specs.declared.shape.Shape.{Shape}
 use Rattle.trace_replay.specs.Words.{named_unit}
@@ -32,3 +34,11 @@ returns-in-Err-default-Geometry-clause-run g c words replays chip unit =
     refused_geometry words _ _ _ _ _ _ _ _ c.refused-in-Err-default-Geometry.result.status replays
     (names_no_chip words _ c.args.named.unit unit none)
     (refl, ap g.F.Flash.pages c.refused-in-Err-default-Geometry.ensures.flash ∙ ap g.F.Flash.pages c.in-Err-default-Geometry.ensures.given_back) c.refused-in-Err-default-Geometry.ensures.refused
+
+pub replay-status-requires-clause-sound : goal.replay-status-requires-clause-sound
+replay-status-requires-clause-sound g c =
+    let device = c.in-Ok.device in
+    let geometry = g.F.Flash.geometry c.args.flash in
+    let limits = c.in-Ok.ensures.begun.1.limits in
+    let chip : device.store.pages ≡ erased_chip geometry = c.in-Ok.ensures.pages ∙ c.requires in
+    rw (chip, c.in-Ok.ensures.geometry) (ChipOk-erased geometry device.store.luns device.store.units (omega (arith, limits.least_blocks)))

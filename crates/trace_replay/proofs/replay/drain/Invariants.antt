@@ -1,7 +1,8 @@
 use Rattle.std.proofs.Common.{◌≡◌, List, ℕ, Option}
 use Rattle.flat_unit.specs.Print.{print}
 use Rattle.flat_unit.specs.Replays.{Progress}
-use Rattle.hpb_device.specs.State.{DeviceState, steps_left}
+use Rattle.hpb_device.specs.Left.{steps_left}
+use Rattle.hpb_device.specs.State.{DeviceState}
 use Rattle.trace_replay.specs.Moments.{Standing}
 use Rattle.trace_replay.specs.Writes.{Grows, HasWrittenUpTo}
 use Rattle.trace_replay.proofs.Standing.{Draining}

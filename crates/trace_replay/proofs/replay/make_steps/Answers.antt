@@ -2,7 +2,7 @@ use Rattle.std.proofs.Common.{◌≡◌, ◌+◌, Bool, true, false, not, refl, 
 use Rattle.std.proofs.lemmas.Bool.{false≢true}
 use Rattle.std.proofs.lemmas.Result.{err_from_is_err_and}
 use Rattle.flat_unit.specs.Print.{print}
-use Rattle.trace_replay.proofs.Standing.{stepping_of, made_begins, made_written, made_goes_on, made_rests, made_is_cut, made_ends}
+use Rattle.trace_replay.proofs.Standing.{idle_rests, stepping_of, made_begins, made_written, made_goes_on, made_rests, made_is_cut, made_ends}
 use Rattle.trace_replay.proofs.Written.{grows_more, grows_none, keeps_grows}
 use Rattle.trace_replay.proofs.replay.make_steps.Goals.{then-not-stepped, else-not-stepped}
 use Rattle.trace_replay.proofs.replay.make_steps.Goals as goal
@@ -29,11 +29,11 @@ loop-step-preserved g c = record {
       let written = made_written start c.loop-step.device before _ _ _ _ p c.loop-step._step so_far (c.in_ok-make_room.ensures.text before (print so_far.moment.events) so_far.printed) in
       elim c.if-not-stepped.branch [
         | then-not-stepped w ↦ let step = stepping_of c.loop-step.device c.step-stepped.new.self c.step-stepped.result c.step-stepped.new.out c.step-stepped.ensures.stands c.step-stepped.ensures.entries c.step-stepped.ensures.listings
-            (λ rests. not_both c.step-stepped.result.idle w.if-not-stepped.true (c.step-stepped.ensures.idle.1 rests)) c.step-stepped.ensures.idle.0 c.step-stepped.ensures.steps c.step-stepped.ensures.fewer c.step-stepped.ensures.shape w.push_step.ensures.bytes in
+            (λ idle. not_both c.step-stepped.result.idle w.if-not-stepped.true idle) c.step-stepped.ensures.steps c.step-stepped.ensures.fewer c.step-stepped.ensures.shape w.push_step.ensures.bytes w.push_step.ensures.small in
             rw w.output-is (made_goes_on start c.loop-step.device c.step-stepped.new.self before _ _ _ p c.step-stepped.result c.step-stepped.new.out c.loop-step._step (c.loop-step._step + 1) (rw add-one refl) step w.push_step.ensures.text written)
         | else-not-stepped w ↦ let idle = one_of c.step-stepped.result.idle w.if-not-stepped.false in
             rw (w.output-is, c.step-stepped.ensures.unchanged idle)
-            (made_rests start c.loop-step.device before _ _ p c.loop-step._step (c.loop-step._step + 1) (rw add-one refl) (c.step-stepped.ensures.idle.0 idle) written)
+            (made_rests start c.loop-step.device before _ _ p c.loop-step._step (c.loop-step._step + 1) (rw add-one refl) (idle_rests c.loop-step.device.store.phase c.loop-step.device.tasks (c.step-stepped.ensures.idle.0 idle)) (c.step-stepped.ensures.looked idle) written)
       ];
   grows = grows_more _ _ _ c.loop-step.invariant.grows (keeps_grows _ _ _ _ c.make_room.result c.make_room.ensures.text);
   none = c.in_ok-make_room.ensures.cause.given ∙ c.loop-step.invariant.none;

@@ -1,10 +1,8 @@
 use Rattle.std.proofs.Common.{◌≡◌, ℕ, ◌+◌, ◌<◌, ◌≤◌, true, List, [], ◌∷◌, ◌++◌, drop, length, Some, refl, inl, inr, sym, ap, subst, ◌∙◌, arith, rules}
-use Rattle.std.specs.Prelude.{sum_by}
 use Rattle.hpb_cdb.specs.declared.limits.Limits.{Limits}
 use Rattle.flat_unit.specs.Replays.{bound}
-use Rattle.hpb_device.specs.Task.{IsQueue, IsWaiting, steps_of}
+use Rattle.hpb_device.specs.Task.{IsQueue, IsWaiting}
 use Rattle.flat_unit.specs.Reply.{reply_of}
-use Rattle.flat_unit.specs.Sizes.{Sizes}
 use Rattle.flat_unit.specs.Task.{Task as Waiting}
 use Rattle.upiu_wire.specs.Upiu.{upiu_at, upiu_out}
 use Rattle.hpb_device.specs.declared.task.Task.{Task}
@@ -12,22 +10,22 @@ use Rattle.hpb_device.specs.declared.reply.Reply.{Reply}
 use Rattle.hpb_device.specs.declared.reply.Reply.TheVariants.{Check}
 use Rattle.hpb_device.specs.declared.reply.Cause.TheVariants.{DataNotAsked}
 use Rattle.hpb_device.specs.declared.accept.Verdict.TheVariants.{Keep, Data, Answer, End}
-use Rattle.hpb_device.specs.Accept.{EndsFirst, TakesPiece, IsBegun, IsKept, IsTaken, IsAnswered}
+use Rattle.hpb_device.specs.Accept.{EndsFirst, TakesPiece, IsBegun}
 use Rattle.hpb_device.specs.Calls.{EndsHead, Keeps, TakesData}
 use Rattle.hpb_device.specs.Keeps.{KeepsTasks}
 use Rattle.hpb_device.specs.Reply.{reply_upiu}
-use Rattle.hpb_device.specs.Standing.{sizes_of, DeviceStands}
-use Rattle.hpb_device.specs.State.{DeviceState, steps_left}
+use Rattle.hpb_device.specs.Standing.{sizes_of, DeviceStands, DeviceStandsForeign}
+use Rattle.hpb_device.specs.State.{DeviceState}
+use Rattle.hpb_device.specs.Left.{steps_left, wait_of}
 use Rattle.hpb_device.proofs.Commands.{ends}
 use Rattle.hpb_device.proofs.Entries.{answered_entries, ending_entries, kept_entries}
 use Rattle.hpb_device.proofs.Listings.{answered_listings, ending_listings, kept_listings}
+use Rattle.hpb_device.proofs.ReceiveForeign.{foreign_same, foreign_with_data, foreign_with_reply, foreign_with_task, foreign_without_head}
 use Rattle.hpb_device.specs.Listed.{ListingStands}
 use Rattle.flat_unit.specs.declared.event.Event.TheVariants.{Host, Device}
 use Rattle.flat_unit.specs.History.{◌▹◌}
-use Rattle.hpb_device.specs.Entries.{EntriesStand}
-use Rattle.hpb_device.proofs.Going.{keeps_left}
-use Rattle.hpb_device.proofs.Leaving.{ended_left}
-use Rattle.hpb_device.proofs.ReceiveStands.{queue_more, waits_begun, stands_kept, stands_with_data, stands_with_reply, stands_without_head, owes_events, no_effects, device_is, follows_at, stands_same, answers_same}
+use Rattle.hpb_device.proofs.Left.{ended_left, keeps_left, wait_most}
+use Rattle.hpb_device.proofs.ReceiveStands.{queue_more, waiting_all, waits_begun, stands_kept, stands_with_data, stands_with_reply, stands_without_head, owes_events, no_effects, device_is, follows_at, stands_same, answers_same}
 use Rattle.hpb_device.specs.Limits.{limits_of}
 use Rattle.hpb_device.proofs.device.Device.receive.Given.{Over}
 use Rattle.hpb_device.proofs.device.Device.receive.Goals.{After-put_reply-in-End}
@@ -48,6 +46,7 @@ invariant_of-self g c =
       whole = c.self.invariant.whole;
       queue = rw pushed (queue_more s.luns (limits_of s.shape) s.tasks.items s.held.items task c.self.invariant.queue waits);
       burst = c.self.invariant.burst;
+      unbegun = λ other. let none = c.self.invariant.unbegun other in (none.0, rw pushed (waiting_all s.luns (limits_of s.shape) s.tasks.items task none.1 waits));
     }
 
 pub returns-in-Keep-clause-stands : goal.returns-in-Keep-clause-stands
@@ -59,6 +58,17 @@ returns-in-Keep-clause-stands g c = λ first e at.
     let kept = follows_at d c.limits_of-limits.result s.luns c.deref.result.now c.args.bytes.now (Keep c.in-Keep.task) c.limits_of-limits.ensures c.self.invariant.luns_served lent c.in-Keep.ensures.follows in
     let queue : IsQueue s.luns c.limits_of-limits.result d.held d.tasks = subst (λ (lim : Limits). IsQueue s.luns lim d.held d.tasks) (sym c.limits_of-limits.ensures) c.self.invariant.queue in
     let now = stands_kept d c.in-Keep.task c.args.bytes.now c.limits_of-limits.result s.luns first e queue c.in-Keep.ensures.verdict.1 kept before in
+    rw c.push.ensures.items now
+
+pub returns-in-Keep-clause-foreign : goal.returns-in-Keep-clause-foreign
+returns-in-Keep-clause-foreign g c = λ chip first e at.
+    let s = c.self.inside in
+    let d : DeviceState = record { store = s.store; shape = s.shape; tasks = s.tasks.items; held = s.held.items; counts = s.counts } in
+    let lent : c.deref.result.now ≡ d.tasks = search rules in
+    let before : DeviceStandsForeign d chip first e = subst (λ (x : DeviceState). DeviceStandsForeign x chip first e) (sym c.self.view_is) at in
+    let kept = follows_at d c.limits_of-limits.result s.luns c.deref.result.now c.args.bytes.now (Keep c.in-Keep.task) c.limits_of-limits.ensures c.self.invariant.luns_served lent c.in-Keep.ensures.follows in
+    let queue : IsQueue s.luns c.limits_of-limits.result d.held d.tasks = subst (λ (lim : Limits). IsQueue s.luns lim d.held d.tasks) (sym c.limits_of-limits.ensures) c.self.invariant.queue in
+    let now = foreign_with_task d c.in-Keep.task c.args.bytes.now c.limits_of-limits.result s.luns chip first e queue c.in-Keep.ensures.verdict.1 kept before in
     rw c.push.ensures.items now
 
 pub take_data-requires : goal.take_data-requires
@@ -88,6 +98,26 @@ returns-in-Data-clause-stands g c = λ first e at.
     (c.take_data.ensures.counts ∙ ap (λ (x : DeviceState). x.counts) (sym c.self.view_is)) in
     stands_same _ _ _ _ same now
 
+pub returns-in-Data-clause-foreign : goal.returns-in-Data-clause-foreign
+returns-in-Data-clause-foreign g c = λ chip first e at.
+    let s = c.self.inside in
+    let d : DeviceState = record { store = s.store; shape = s.shape; tasks = s.tasks.items; held = s.held.items; counts = s.counts } in
+    let lent : c.deref.result.now ≡ d.tasks = search rules in
+    let segment = c.in-Data.segment.now in
+    let before : DeviceStandsForeign d chip first e = subst (λ (x : DeviceState). DeviceStandsForeign x chip first e) (sym c.self.view_is) at in
+    let taken = follows_at d c.limits_of-limits.result s.luns c.deref.result.now c.args.bytes.now (Data c.in-Data.segment) c.limits_of-limits.ensures c.self.invariant.luns_served lent c.in-Data.ensures.follows in
+    let data_taken : TakesData c.args.self.now c.take_data.new.self segment = c.take_data.ensures.taken in
+    let task = data_taken.task in
+    let others = data_taken.others in
+    let is : d.tasks ≡ task ∷ others = ap (λ (x : DeviceState). x.tasks) c.self.view_is ∙ data_taken.was in
+    let queue = subst (IsQueue s.luns (limits_of s.shape) d.held) is c.self.invariant.queue in
+    let now = foreign_with_data d task others c.args.bytes.now segment chip first e is queue.1.part taken before in
+    let same = device_is d c.take_data.new.self (record task { come = task.come + length segment } ∷ others) (d.held ++ segment)
+    (c.take_data.ensures.store ∙ ap (λ (x : DeviceState). x.store) (sym c.self.view_is)) (c.take_data.ensures.shape ∙ ap (λ (x : DeviceState). x.shape) (sym c.self.view_is))
+    data_taken.kept (data_taken.held ∙ ap (λ (x : DeviceState). x.held ++ segment) (sym c.self.view_is))
+    (c.take_data.ensures.counts ∙ ap (λ (x : DeviceState). x.counts) (sym c.self.view_is)) in
+    foreign_same _ _ _ _ _ same now
+
 pub returns-in-Answer-clause-stands : goal.returns-in-Answer-clause-stands
 returns-in-Answer-clause-stands g c = λ first e at.
     let s = c.self.inside in
@@ -97,6 +127,16 @@ returns-in-Answer-clause-stands g c = λ first e at.
     let answered = follows_at d c.limits_of-limits.result s.luns c.deref.result.now c.args.bytes.now (Answer c.in-Answer.reply) c.limits_of-limits.ensures c.self.invariant.luns_served lent c.in-Answer.ensures.follows in
     let now = stands_with_reply d c.args.bytes.now c.in-Answer.reply c.put_reply.new.out first e c.put_reply.ensures answered before in
     stands_same _ _ _ _ c.self.view_is now
+
+pub returns-in-Answer-clause-foreign : goal.returns-in-Answer-clause-foreign
+returns-in-Answer-clause-foreign g c = λ chip first e at.
+    let s = c.self.inside in
+    let d : DeviceState = record { store = s.store; shape = s.shape; tasks = s.tasks.items; held = s.held.items; counts = s.counts } in
+    let lent : c.deref.result.now ≡ d.tasks = search rules in
+    let before : DeviceStandsForeign d chip first e = subst (λ (x : DeviceState). DeviceStandsForeign x chip first e) (sym c.self.view_is) at in
+    let answered = follows_at d c.limits_of-limits.result s.luns c.deref.result.now c.args.bytes.now (Answer c.in-Answer.reply) c.limits_of-limits.ensures c.self.invariant.luns_served lent c.in-Answer.ensures.follows in
+    let now = foreign_with_reply d c.args.bytes.now c.in-Answer.reply c.put_reply.new.out chip first e c.put_reply.ensures answered before in
+    foreign_same _ _ _ _ _ c.self.view_is now
 
 pub returns-in-Answer-clause-answers : goal.returns-in-Answer-clause-answers
 returns-in-Answer-clause-answers g c = λ tasks keeps.
@@ -119,9 +159,9 @@ returns-in-Keep-clause-receives g c =
     subst (λ (lim : Limits). IsBegun lim d.store.luns (upiu_at c.args.bytes.now) task) c.limits_of-limits.ensures
     (subst (λ (luns : ℕ). IsBegun c.limits_of-limits.result luns (upiu_at c.args.bytes.now) task) (sym c.self.invariant.luns_served) c.in-Keep.ensures.verdict.1) in
     let some : 1 ≤ d.store.geometry.pages = let limits = c.self.invariant.served.limits in omega (arith, limits.least_pages) in
-    let left : sum_by (steps_of (limits_of d.shape)) c.push.new.self.items ≤ steps_left d + bound (sizes_of d) task.command =
-    subst (λ (ts : List Task). sum_by (steps_of (limits_of d.shape)) ts ≤ steps_left d + bound (sizes_of d) task.command) (sym pushed) (keeps_left d task some) in
     let now : DeviceState = record { store = s.store; shape = s.shape; tasks = c.push.new.self.items; held = s.held.items; counts = s.counts } in
+    let left : steps_left now ≤ steps_left d + bound (sizes_of d) task.command =
+    subst (λ (ts : List Task). steps_left (record d { tasks = ts }) ≤ steps_left d + bound (sizes_of d) task.command) (sym pushed) (keeps_left d task some) in
     let keeps : Keeps d now c.args.bytes.now = record { task = task; room = subst (λ (ts : List Task). length ts < 32) lent c.in-Keep.ensures.verdict.0; begun = begun; kept = pushed; held = refl; left = left } in
     inl (subst (λ (x : DeviceState). Keeps x now c.args.bytes.now) c.self.view_is keeps)
 
@@ -139,8 +179,9 @@ ends_it g c =
     let now = now_of g c in
     let sent = c.put_reply-in-End.ensures ∙ ap (λ (r : Reply). upiu_out (reply_upiu r)) ended.4.2 in
     let gone : now.tasks ≡ ended.1 = c.end_head.ensures.tasks ∙ ap (drop 1) ended.2 in
-    let fewer : steps_left now < steps_left d =
-    ended_left (limits_of d.shape) d.tasks now.tasks ended.0 ended.1 ended.2 gone in
+    let some = c.self.invariant.served.limits.least_pages in
+    let less = ended_left (limits_of d.shape) d.store.geometry.pages (wait_of d.store) (wait_of d.store) d.tasks now.tasks ended.0 ended.1 (wait_most d.store (omega (arith, some))) ended.2 gone in
+    let fewer : steps_left now < steps_left d = omega (arith, less) in
     let head : EndsHead d now c.put_reply-in-End.new.out = record {
       task = ended.0;
       others = ended.1;
@@ -171,6 +212,23 @@ returns-in-End-clause-stands g c = λ first e at.
     let sent = c.put_reply-in-End.ensures ∙ ap (λ (r : Reply). upiu_out (reply_upiu r)) ended.4.2 in
     let gone : c.end_head.new.tasks.items ≡ ended.1 = c.end_head.ensures.tasks ∙ ap (drop 1) ended.2 in
     let now = stands_without_head d ended.0 ended.1 c.args.bytes.now c.put_reply-in-End.new.out ended.4.0 s.luns (limits_of s.shape) first e ended.2 queue.2 ended.4.1 sent answers before in
+    rw (gone, c.end_head.ensures.held) now
+
+pub returns-in-End-clause-foreign : goal.returns-in-End-clause-foreign
+returns-in-End-clause-foreign g c = λ chip first e at.
+    let s = c.self.inside in
+    let d : DeviceState = record { store = s.store; shape = s.shape; tasks = s.tasks.items; held = s.held.items; counts = s.counts } in
+    let lent : c.deref.result.now ≡ d.tasks = search rules in
+    let before : DeviceStandsForeign d chip first e = subst (λ (x : DeviceState). DeviceStandsForeign x chip first e) (sym c.self.view_is) at in
+    let ended = ends d.tasks c.in-End.reply (subst (λ (ts : List Task). EndsFirst ts c.in-End.reply) lent c.in-End.ensures.verdict) in
+    let queue = subst (IsQueue s.luns (limits_of s.shape) d.held) ended.2 c.self.invariant.queue in
+    let answers : (tasks : List Waiting) → KeepsTasks d.tasks d.held tasks
+    → reply_of (sizes_of d) true tasks c.args.bytes.now ≡ Some (reply_upiu (Check ended.0.lun ended.0.tag ended.4.0 DataNotAsked)) =
+    λ tasks keeps. follows_at d c.limits_of-limits.result s.luns c.deref.result.now c.args.bytes.now (End c.in-End.reply) c.limits_of-limits.ensures c.self.invariant.luns_served lent c.in-End.ensures.follows tasks keeps
+    ∙ ap (λ (r : Reply). Some (reply_upiu r)) ended.4.2 in
+    let sent = c.put_reply-in-End.ensures ∙ ap (λ (r : Reply). upiu_out (reply_upiu r)) ended.4.2 in
+    let gone : c.end_head.new.tasks.items ≡ ended.1 = c.end_head.ensures.tasks ∙ ap (drop 1) ended.2 in
+    let now = foreign_without_head d ended.0 ended.1 c.args.bytes.now c.put_reply-in-End.new.out ended.4.0 s.luns (limits_of s.shape) chip first e ended.2 queue.2 ended.4.1 sent answers before in
     rw (gone, c.end_head.ensures.held) now
 
 pub returns-in-End-clause-answers : goal.returns-in-End-clause-answers

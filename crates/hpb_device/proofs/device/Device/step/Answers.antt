@@ -1,155 +1,110 @@
-use Rattle.std.specs.Prelude.{sum_by}
-use Rattle.std.proofs.Common.{◌≡◌, ◌*◌, ◌≤◌, length, Bool, ℕ, ◌<◌, List, ◌∷◌, drop, arith, refl, sym, ap, subst, ◌∙◌, rules}
-use Rattle.flash_pages.specs.declared.chip.Geometry.{Geometry}
+use Rattle.std.proofs.Common.{arith, sym, ap, subst, ◌≡◌, ◌∙◌}
+use Rattle.flash_store.specs.declared.answers.Phase.TheVariants.{Scanning, Ready, Foreign}
+use Rattle.flash_store.specs.Store.{IsStanding}
 use Rattle.flat_unit.specs.History.{History}
-use Rattle.flat_unit.specs.Stands.{First}
-use Rattle.hpb_cdb.specs.declared.limits.Limits.{Limits}
-use Rattle.hpb_device.specs.declared.counts.Counts.{Counts}
-use Rattle.hpb_device.specs.declared.task.Task.{Task}
-use Rattle.hpb_device.specs.Advance.{Advances, AllTasks, IsSameStore}
-use Rattle.hpb_device.specs.Counts.{counted}
+use Rattle.hpb_device.specs.Calls.{GoesOn, Refuses}
 use Rattle.hpb_device.specs.Entries.{EntriesStand}
-use Rattle.hpb_device.specs.Limits.{limits_of}
 use Rattle.hpb_device.specs.Listed.{ListingStands}
-use Rattle.hpb_device.specs.Standing.{DeviceStands}
-use Rattle.hpb_device.specs.State.{DeviceState, steps_left}
-use Rattle.hpb_device.specs.StoreCounts.{CountsStep}
-use Rattle.hpb_device.specs.Task.{IsQueue, IsTaskOk, steps_of, tries_entry}
-use Rattle.hpb_device.proofs.Commands.{first_of}
-use Rattle.hpb_device.proofs.Entries.{stepped_entries}
-use Rattle.hpb_device.proofs.Leaving.{advanced_whole, leaves_fewer, leaves_queue, none_erased, on_false, still_advances}
-use Rattle.hpb_device.proofs.Listings.{stepped_listings}
-use Rattle.hpb_device.proofs.ReceiveStands.{stands_same}
-use Rattle.hpb_device.proofs.StepStands.{Turn, ready_of, steps}
-use Rattle.hpb_device.proofs.device.Device.step.Given.{Over}
-use Rattle.hpb_device.proofs.device.Device.step.Goals.{After-leave}
+use Rattle.hpb_device.specs.Standing.{DeviceStands, DeviceStandsForeign}
+use Rattle.hpb_device.specs.State.{DeviceState}
+use Rattle.hpb_device.proofs.Stepping.{IsWell, idle_or, steps_entries, steps_foreign, steps_listings, steps_stands, well_of}
 use Rattle.hpb_device.proofs.device.Device.step.Goals as goal
 
--- the device before the step, and after it
-abbrev before : (g : Over) → After-leave g → DeviceState
-before g c = let s = c.self.inside in record { store = s.store; shape = s.shape; tasks = s.tasks.items; held = s.held.items; counts = s.counts }
+apart-Ready : Scanning ≡ Ready → ⊥
+apart-Ready same = cc
 
-abbrev after : (g : Over) → After-leave g → DeviceState
-after g c = record {
-  store = c.advance-progress.new.store;
-  shape = c.self.inside.shape;
-  tasks = c.leave.new.tasks.items;
-  held = c.leave.new.held.items;
-  counts = c.after-counts.result;
-}
+apart-Foreign : Scanning ≡ Foreign → ⊥
+apart-Foreign same = cc
 
-abbrev others : (g : Over) → After-leave g → List Task
-others g c = drop 1 c.self.inside.tasks.items
-
-was : (g : Over) (c : After-leave g) → (before g c).tasks ≡ c.in-Some.task ∷ others g c
-was g c = first_of c.self.inside.tasks.items c.in-Some.task (search rules)
-
--- what the step came to
-told : (g : Over) (c : After-leave g) → let d = before g c in let p = c.advance-progress in Advances (limits_of d.shape) d.store p.new.store d.held p.new.held.items c.in-Some.task p.result p.new.out
-told g c =
-    let d = before g c in
-    let p = c.advance-progress in
-    subst (λ (lim : Limits). Advances lim d.store p.new.store d.held p.new.held.items c.in-Some.task p.result p.new.out) c.limits_of-limits.ensures p.ensures.advances
-
-advances : (g : Over) (c : After-leave g)
-    → let d = before g c in Advances (limits_of d.shape) d.store (after g c).store d.held (after g c).held c.in-Some.task c.advance-progress.result c.leave.new.out
-advances g c =
-    let d = before g c in
-    let p = c.advance-progress in
-    still_advances (limits_of d.shape) d.store p.new.store d.held p.new.held.items c.leave.new.held.items c.in-Some.task p.result _ _ c.leave.ensures.stays (told g c)
-
--- the step, at a history that the device stands at
-abbrev turn : (g : Over) (c : After-leave g) (first : First) (e : History) → DeviceStands (before g c) first e → Turn
-turn g c first e at =
-    let d = before g c in
-    let task = c.in-Some.task in
-    let queue : IsQueue d.store.luns (limits_of d.shape) d.held d.tasks = search rules in
-    let goes : task.come ≡ task.asked = search rules in
-    let most = c.self.invariant.served.limits.most in
-    record {
-      old = d;
-      new = after g c;
-      task = task;
-      others = others g c;
-      first = first;
-      history = e;
-      was = was g c;
-      at = at;
-      ready = ready_of d task (others g c) first e at (was g c) queue c.self.invariant.units_served goes;
-      few = omega (arith, c.self.invariant.whole, most);
-      whole = c.self.invariant.whole;
-      same = c.advance-progress.ensures.same;
-      shape = refl;
-      erased = ap (λ (n : Counts). n.erased) c.after-counts.ensures ∙ none_erased d.counts c.tries_entry-tried.result c.advance-progress.result;
-    }
-
-pub invariant_of-self : goal.invariant_of-self
-invariant_of-self g c =
+pub returns-in-Scanning-clause-stands : goal.returns-in-Scanning-clause-stands
+returns-in-Scanning-clause-stands g c = λ first e at.
     let s = c.self.inside in
-    let lim = limits_of s.shape in
-    let task = c.in-Some.task in
-    let was : s.tasks.items ≡ task ∷ drop 1 s.tasks.items = first_of s.tasks.items task (search rules) in
-    let queue = subst (IsQueue s.luns lim s.held.items) was c.self.invariant.queue in
-    let same = c.advance-progress.ensures.same in
-    let ok : AllTasks (IsTaskOk s.luns lim) c.advance-progress.result =
-    subst (λ (luns : ℕ). AllTasks (IsTaskOk luns lim) c.advance-progress.result) c.self.invariant.luns_served
-    (subst (λ (l : Limits). AllTasks (IsTaskOk s.store.luns l) c.advance-progress.result) c.limits_of-limits.ensures c.advance-progress.ensures.ok) in
-    record {
-      limits = c.self.invariant.limits;
-      luns_served = same.luns ∙ c.self.invariant.luns_served;
-      units_served = same.units ∙ c.self.invariant.units_served;
-      served = rw (same.geometry) (c.self.invariant.served);
-      whole = advanced_whole lim s.store c.advance-progress.new.store s.held.items c.advance-progress.new.held.items task c.advance-progress.result c.advance-progress.new.out (subst (λ (l : Limits). Advances l s.store c.advance-progress.new.store s.held.items c.advance-progress.new.held.items task c.advance-progress.result c.advance-progress.new.out) c.limits_of-limits.ensures c.advance-progress.ensures.advances) ∙ (c.self.invariant.whole ∙ ap (λ (geometry : Geometry). geometry.blocks * geometry.pages) (sym same.geometry));
-      queue = leaves_queue s.luns lim c.advance-progress.result _ c.leave.new.tasks.items c.advance-progress.new.held.items c.leave.new.held.items c.leave.result _ _ c.leave.ensures.leaves c.leave.ensures.stays ok c.advance-progress.ensures.held queue.2;
-      burst = omega (arith, c.self.invariant.burst, c.leave.ensures.room, c.advance-progress.ensures.room);
-    }
+    let d : DeviceState = record { store = s.store; shape = s.shape; tasks = s.tasks.items; held = s.held.items; counts = s.counts } in
+    let well : IsWell c.args.self.now = subst IsWell c.self.view_is (well_of d s.luns _ c.self.invariant c.phase.ensures.stands) in
+    let is : c.args.self.now.store.phase ≡ Scanning = ap (λ (x : DeviceState). x.store.phase) (sym c.self.view_is) ∙ (sym c.phase.ensures.phase ∙ c.in-Scanning.is) in
+    steps_stands c.args.self.now c.scan.new.self well c.scan.ensures.shape c.scan.result c.scan.new.out Scanning first e is c.scan.ensures.scans at
 
-pub returns-clause-fewer : goal.returns-clause-fewer
-returns-clause-fewer g c =
-    let d = before g c in
-    let lim = limits_of d.shape in
-    let task = c.in-Some.task in
-    let less : AllTasks (λ rest. steps_of lim rest < steps_of lim task) c.advance-progress.result =
-    subst (λ (l : Limits). AllTasks (λ rest. steps_of l rest < steps_of l task) c.advance-progress.result) c.limits_of-limits.ensures c.advance-progress.ensures.fewer in
-    let left = sum_by (steps_of lim) c.leave.new.tasks.items in
-    let fewer = leaves_fewer lim task c.advance-progress.result (others g c) c.leave.new.tasks.items c.leave.new.held.items c.leave.result c.leave.new.out c.leave.ensures.leaves less in
-    let fewer_left : left < steps_left d = subst (λ (ts : List Task). left < sum_by (steps_of lim) ts) (sym (was g c)) fewer in
-    on_false c.leave.result.idle (subst (λ (x : DeviceState). left < steps_left x) c.self.view_is fewer_left)
+pub returns-in-Scanning-clause-foreign : goal.returns-in-Scanning-clause-foreign
+returns-in-Scanning-clause-foreign g c = λ chip first e at.
+    let s = c.self.inside in
+    let d : DeviceState = record { store = s.store; shape = s.shape; tasks = s.tasks.items; held = s.held.items; counts = s.counts } in
+    let well : IsWell c.args.self.now = subst IsWell c.self.view_is (well_of d s.luns _ c.self.invariant c.phase.ensures.stands) in
+    let is : c.args.self.now.store.phase ≡ Scanning = ap (λ (x : DeviceState). x.store.phase) (sym c.self.view_is) ∙ (sym c.phase.ensures.phase ∙ c.in-Scanning.is) in
+    steps_foreign c.args.self.now c.scan.new.self well c.scan.ensures.shape c.scan.result c.scan.new.out chip Scanning first e is c.scan.ensures.scans at
 
-pub returns-clause-stands : goal.returns-clause-stands
-returns-clause-stands g c = λ first e at.
-    let here = stands_same _ _ _ _ (sym c.self.view_is) at in
-    steps (turn g c first e here) c.advance-progress.result c.leave.result c.leave.new.out (advances g c) c.leave.ensures.leaves
+pub returns-in-Scanning-clause-entries : goal.returns-in-Scanning-clause-entries
+returns-in-Scanning-clause-entries g c = λ first e at stand.
+    let s = c.self.inside in
+    let d : DeviceState = record { store = s.store; shape = s.shape; tasks = s.tasks.items; held = s.held.items; counts = s.counts } in
+    let well : IsWell c.args.self.now = subst IsWell c.self.view_is (well_of d s.luns _ c.self.invariant c.phase.ensures.stands) in
+    let is : c.args.self.now.store.phase ≡ Scanning = ap (λ (x : DeviceState). x.store.phase) (sym c.self.view_is) ∙ (sym c.phase.ensures.phase ∙ c.in-Scanning.is) in
+    steps_entries c.args.self.now c.scan.new.self well c.scan.ensures.shape c.scan.result c.scan.new.out Scanning first e is c.scan.ensures.scans at stand
 
-pub returns-clause-steps : goal.returns-clause-steps
-returns-clause-steps g c =
-    let task = c.in-Some.task in
-    let p = c.advance-progress in
-    let d = before g c in
-    let queue : IsQueue d.store.luns (limits_of d.shape) d.held d.tasks = search rules in
-    let ok = (subst (IsQueue d.store.luns (limits_of d.shape) d.held) (was g c) queue).0 in
-    on_false c.leave.result.idle (record {
-      task = task;
-      others = others g c;
-      progress = p.result;
-      was = ap (λ (x : DeviceState). x.tasks) (sym c.self.view_is) ∙ was g c;
-      ok = subst (λ (x : DeviceState). IsTaskOk x.store.luns (limits_of x.shape) task) c.self.view_is ok;
-      advances = subst (λ (x : DeviceState). Advances (limits_of x.shape) x.store p.new.store x.held c.leave.new.held.items task p.result c.leave.new.out) c.self.view_is (advances g c);
-      leaves = c.leave.ensures.leaves;
-      same = subst (λ (x : DeviceState). IsSameStore x.store p.new.store) c.self.view_is p.ensures.same;
-      counts = c.after-counts.ensures ∙ ap (λ (b : Bool). counted c.self.inside.counts b p.result) c.tries_entry-tried.ensures
-          ∙ ap (λ (x : DeviceState). counted x.counts (tries_entry task) p.result) c.self.view_is;
-      calls = subst (λ (x : DeviceState). CountsStep x.store p.new.store task p.result) c.self.view_is p.ensures.calls;
-    })
+pub returns-in-Scanning-clause-listings : goal.returns-in-Scanning-clause-listings
+returns-in-Scanning-clause-listings g c = λ had pages first e at stand.
+    let s = c.self.inside in
+    let d : DeviceState = record { store = s.store; shape = s.shape; tasks = s.tasks.items; held = s.held.items; counts = s.counts } in
+    let well : IsWell c.args.self.now = subst IsWell c.self.view_is (well_of d s.luns _ c.self.invariant c.phase.ensures.stands) in
+    let is : c.args.self.now.store.phase ≡ Scanning = ap (λ (x : DeviceState). x.store.phase) (sym c.self.view_is) ∙ (sym c.phase.ensures.phase ∙ c.in-Scanning.is) in
+    steps_listings c.args.self.now c.scan.new.self well c.scan.ensures.shape c.scan.result c.scan.new.out had pages Scanning first e is c.scan.ensures.scans at stand
 
-pub returns-clause-entries : goal.returns-clause-entries
-returns-clause-entries g c = λ first e at stand.
-    let here = stands_same _ _ _ _ (sym c.self.view_is) at in
-    stepped_entries (turn g c first e here) c.advance-progress.result c.leave.result c.leave.new.out (advances g c) c.leave.ensures.leaves
-    (subst (λ (x : DeviceState). EntriesStand x e) (sym c.self.view_is) stand)
+pub returns-in-Ready-clause-stands : goal.returns-in-Ready-clause-stands
+returns-in-Ready-clause-stands g c = λ first e at.
+    let s = c.self.inside in
+    let d : DeviceState = record { store = s.store; shape = s.shape; tasks = s.tasks.items; held = s.held.items; counts = s.counts } in
+    let well : IsWell c.args.self.now = subst IsWell c.self.view_is (well_of d s.luns _ c.self.invariant c.phase.ensures.stands) in
+    let is : c.args.self.now.store.phase ≡ Ready = ap (λ (x : DeviceState). x.store.phase) (sym c.self.view_is) ∙ (sym c.phase.ensures.phase ∙ c.in-Ready.is) in
+    idle_or (λ (x : DeviceState) (h : History). DeviceStands x first h) (GoesOn c.args.self.now c.advance_head.new.self c.advance_head.result c.advance_head.new.out) c.args.self.now c.advance_head.new.self c.advance_head.result c.advance_head.new.out e c.advance_head.ensures.nothing c.advance_head.ensures.unchanged
+    (λ steps before. steps_stands c.args.self.now c.advance_head.new.self well c.advance_head.ensures.shape c.advance_head.result c.advance_head.new.out Ready first e is steps before) c.advance_head.ensures.goes at
 
-pub returns-clause-listings : goal.returns-clause-listings
-returns-clause-listings g c = λ had pages first e at stand.
-    let here = stands_same _ _ _ _ (sym c.self.view_is) at in
-    stepped_listings had pages (turn g c first e here) c.advance-progress.result c.leave.result c.leave.new.out (advances g c) c.leave.ensures.leaves
-    (subst (λ (x : DeviceState). ListingStands had pages x e) (sym c.self.view_is) stand)
+pub returns-in-Ready-clause-foreign : goal.returns-in-Ready-clause-foreign
+returns-in-Ready-clause-foreign g c = λ chip first e at.
+    let s = c.self.inside in
+    let d : DeviceState = record { store = s.store; shape = s.shape; tasks = s.tasks.items; held = s.held.items; counts = s.counts } in
+    let well : IsWell c.args.self.now = subst IsWell c.self.view_is (well_of d s.luns _ c.self.invariant c.phase.ensures.stands) in
+    let is : c.args.self.now.store.phase ≡ Ready = ap (λ (x : DeviceState). x.store.phase) (sym c.self.view_is) ∙ (sym c.phase.ensures.phase ∙ c.in-Ready.is) in
+    idle_or (λ (x : DeviceState) (h : History). DeviceStandsForeign x chip first h) (GoesOn c.args.self.now c.advance_head.new.self c.advance_head.result c.advance_head.new.out) c.args.self.now c.advance_head.new.self c.advance_head.result c.advance_head.new.out e c.advance_head.ensures.nothing c.advance_head.ensures.unchanged
+    (λ steps before. steps_foreign c.args.self.now c.advance_head.new.self well c.advance_head.ensures.shape c.advance_head.result c.advance_head.new.out chip Ready first e is steps before) c.advance_head.ensures.goes at
+
+pub returns-in-Ready-clause-entries : goal.returns-in-Ready-clause-entries
+returns-in-Ready-clause-entries g c = λ first e at stand.
+    let s = c.self.inside in
+    let d : DeviceState = record { store = s.store; shape = s.shape; tasks = s.tasks.items; held = s.held.items; counts = s.counts } in
+    let well : IsWell c.args.self.now = subst IsWell c.self.view_is (well_of d s.luns _ c.self.invariant c.phase.ensures.stands) in
+    let is : c.args.self.now.store.phase ≡ Ready = ap (λ (x : DeviceState). x.store.phase) (sym c.self.view_is) ∙ (sym c.phase.ensures.phase ∙ c.in-Ready.is) in
+    idle_or (EntriesStand) (GoesOn c.args.self.now c.advance_head.new.self c.advance_head.result c.advance_head.new.out) c.args.self.now c.advance_head.new.self c.advance_head.result c.advance_head.new.out e c.advance_head.ensures.nothing c.advance_head.ensures.unchanged
+    (λ steps before. steps_entries c.args.self.now c.advance_head.new.self well c.advance_head.ensures.shape c.advance_head.result c.advance_head.new.out Ready first e is steps at before) c.advance_head.ensures.goes stand
+
+pub returns-in-Ready-clause-listings : goal.returns-in-Ready-clause-listings
+returns-in-Ready-clause-listings g c = λ had pages first e at stand.
+    let s = c.self.inside in
+    let d : DeviceState = record { store = s.store; shape = s.shape; tasks = s.tasks.items; held = s.held.items; counts = s.counts } in
+    let well : IsWell c.args.self.now = subst IsWell c.self.view_is (well_of d s.luns _ c.self.invariant c.phase.ensures.stands) in
+    let is : c.args.self.now.store.phase ≡ Ready = ap (λ (x : DeviceState). x.store.phase) (sym c.self.view_is) ∙ (sym c.phase.ensures.phase ∙ c.in-Ready.is) in
+    idle_or (ListingStands had pages) (GoesOn c.args.self.now c.advance_head.new.self c.advance_head.result c.advance_head.new.out) c.args.self.now c.advance_head.new.self c.advance_head.result c.advance_head.new.out e c.advance_head.ensures.nothing c.advance_head.ensures.unchanged
+    (λ steps before. steps_listings c.args.self.now c.advance_head.new.self well c.advance_head.ensures.shape c.advance_head.result c.advance_head.new.out had pages Ready first e is steps at before) c.advance_head.ensures.goes stand
+
+pub returns-in-Foreign-clause-foreign : goal.returns-in-Foreign-clause-foreign
+returns-in-Foreign-clause-foreign g c = λ chip first e at.
+    let s = c.self.inside in
+    let d : DeviceState = record { store = s.store; shape = s.shape; tasks = s.tasks.items; held = s.held.items; counts = s.counts } in
+    let well : IsWell c.args.self.now = subst IsWell c.self.view_is (well_of d s.luns _ c.self.invariant c.phase.ensures.stands) in
+    let is : c.args.self.now.store.phase ≡ Foreign = ap (λ (x : DeviceState). x.store.phase) (sym c.self.view_is) ∙ (sym c.phase.ensures.phase ∙ c.in-Foreign.is) in
+    idle_or (λ (x : DeviceState) (h : History). DeviceStandsForeign x chip first h) (Refuses c.args.self.now c.refuse_head.new.self c.refuse_head.result c.refuse_head.new.out) c.args.self.now c.refuse_head.new.self c.refuse_head.result c.refuse_head.new.out e c.refuse_head.ensures.nothing c.refuse_head.ensures.unchanged
+    (λ steps before. steps_foreign c.args.self.now c.refuse_head.new.self well c.refuse_head.ensures.shape c.refuse_head.result c.refuse_head.new.out chip Foreign first e is steps before) c.refuse_head.ensures.refuses at
+
+pub returns-in-Ready-clause-looked : goal.returns-in-Ready-clause-looked
+returns-in-Ready-clause-looked g c = λ idle.
+    let is : c.self.inside.store.phase ≡ Ready = sym c.phase.ensures.phase ∙ c.in-Ready.is in
+    let stands : IsStanding c.args.self.now.store = subst (λ (x : DeviceState). IsStanding x.store) c.self.view_is c.phase.ensures.stands in
+    let now : c.args.self.now.store.phase ≡ Ready = ap (λ (x : DeviceState). x.store.phase) (sym c.self.view_is) ∙ is in
+    let read = stands.scanned (λ scans. absurd (apart-Ready (sym scans ∙ now))) in
+    omega (arith, read)
+
+pub returns-in-Foreign-clause-looked : goal.returns-in-Foreign-clause-looked
+returns-in-Foreign-clause-looked g c = λ idle.
+    let is : c.self.inside.store.phase ≡ Foreign = sym c.phase.ensures.phase ∙ c.in-Foreign.is in
+    let stands : IsStanding c.args.self.now.store = subst (λ (x : DeviceState). IsStanding x.store) c.self.view_is c.phase.ensures.stands in
+    let now : c.args.self.now.store.phase ≡ Foreign = ap (λ (x : DeviceState). x.store.phase) (sym c.self.view_is) ∙ is in
+    let read = stands.scanned (λ scans. absurd (apart-Foreign (sym scans ∙ now))) in
+    omega (arith, read)

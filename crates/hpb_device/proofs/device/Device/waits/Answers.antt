@@ -1,6 +1,6 @@
 use Rattle.std.proofs.Common.{◌≤◌, arith, subst}
 use Rattle.hpb_device.specs.State.{DeviceState}
-use Rattle.hpb_device.proofs.Going.{few_left}
+use Rattle.hpb_device.proofs.Left.{few_left}
 use Rattle.hpb_device.proofs.device.Device.waits.Goals as goal
 
 pub returns-then-waits_for_data-clause-few : goal.returns-then-waits_for_data-clause-few

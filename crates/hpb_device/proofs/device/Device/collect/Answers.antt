@@ -1,0 +1,216 @@
+use Rattle.std.proofs.Common.{◌≡◌, ◌*◌, [], refl, sym, ap, subst, ◌∙◌}
+use Rattle.flash_pages.specs.declared.chip.Geometry.{Geometry}
+use Rattle.collector_laws.specs.Changes.{Changes}
+use Rattle.flash_store.specs.declared.answers.Moved.{Moved}
+use Rattle.flash_store.specs.declared.answers.Moved.TheVariants.{Page as MovedPage, Erased as ErasedBlock}
+use Rattle.flash_store.specs.declared.answers.Phase.TheVariants.{Ready}
+use Rattle.flash_store.specs.Collecting.{as_collected}
+use Rattle.flash_store.specs.Store.{IsCollected, IsStanding}
+use Rattle.hpb_device.specs.Advance.{IsSameStore}
+use Rattle.hpb_device.specs.Entries.{EntriesStand}
+use Rattle.hpb_device.specs.Left.{KeepsNoWrite, steps_left}
+use Rattle.hpb_device.specs.Listed.{ListingStands}
+use Rattle.hpb_device.specs.Standing.{DeviceStands, DeviceStandsForeign}
+use Rattle.hpb_device.specs.State.{DeviceState}
+use Rattle.hpb_device.proofs.Collecting.{IsCollecting, IsMoved, collect_left, moved_entries, moved_listings, moved_of_collect, moved_stands, no_foreign, unmoved_stands, whole_moved}
+use Rattle.hpb_device.proofs.Unready.{sound_along}
+use Rattle.hpb_device.proofs.device.Device.collect.Goals as goal
+
+pub invariant_of-self-in-Ok-Erased : goal.invariant_of-self-in-Ok-Erased
+invariant_of-self-in-Ok-Erased g c =
+    let s = c.self.inside in
+    let d : DeviceState = record { store = s.store; shape = s.shape; tasks = s.tasks.items; held = s.held.items; counts = s.counts } in
+    let n : DeviceState = record { store = c.collect_step.new.self; shape = s.shape; tasks = s.tasks.items; held = s.held.items; counts = c.after_moved-self-inside-in-Ok-Erased.result } in
+    let ready : d.store.phase ≡ Ready = sym c.phase.ensures.phase ∙ c.in-Ready.is in
+    let is : IsCollecting d n = record { ready = ready; standing = c.phase.ensures.stands; same = c.collect_step.ensures.same; shape = refl; tasks = refl; held = refl } in
+    let at = c.self.invariant in
+    let same = c.collect_step.ensures.same in
+    let whole = whole_moved d n is (ErasedBlock c.in-Ok-Erased.block) (subst (λ (m : Moved). IsCollected d.store m n.store) c.in-Ok-Erased.field-0-is (c.in-Ok-Erased.ensures.moved ready)) in
+    record {
+      limits = at.limits;
+      luns_served = same.luns ∙ at.luns_served;
+      units_served = same.units ∙ at.units_served;
+      served = rw (same.geometry) (at.served);
+      whole = whole ∙ (at.whole ∙ ap (λ (geometry : Geometry). geometry.blocks * geometry.pages) (sym same.geometry));
+      queue = at.queue;
+      burst = at.burst;
+      unbegun = λ other. absurd (other (same.phase ∙ ready));
+    }
+
+pub returns-in-Ok-Idle-clause-foreign : goal.returns-in-Ok-Idle-clause-foreign
+returns-in-Ok-Idle-clause-foreign g c = λ chip first e at.
+    let s = c.self.inside in
+    let d : DeviceState = record { store = s.store; shape = s.shape; tasks = s.tasks.items; held = s.held.items; counts = s.counts } in
+    let n : DeviceState = record { store = c.collect_step.new.self; shape = s.shape; tasks = s.tasks.items; held = s.held.items; counts = s.counts } in
+    let ready : d.store.phase ≡ Ready = sym c.phase.ensures.phase ∙ c.in-Ready.is in
+    let is : IsCollecting d n = record { ready = ready; standing = c.phase.ensures.stands; same = c.collect_step.ensures.same; shape = refl; tasks = refl; held = refl } in
+    no_foreign d n is chip first e _ (subst (λ (x : DeviceState). DeviceStandsForeign x chip first e) (sym c.self.view_is) at)
+
+pub returns-in-Ok-Idle-clause-left : goal.returns-in-Ok-Idle-clause-left
+returns-in-Ok-Idle-clause-left g c = λ none.
+    let s = c.self.inside in
+    let d : DeviceState = record { store = s.store; shape = s.shape; tasks = s.tasks.items; held = s.held.items; counts = s.counts } in
+    let n : DeviceState = record { store = c.collect_step.new.self; shape = s.shape; tasks = s.tasks.items; held = s.held.items; counts = s.counts } in
+    let ready : d.store.phase ≡ Ready = sym c.phase.ensures.phase ∙ c.in-Ready.is in
+    let is : IsCollecting d n = record { ready = ready; standing = c.phase.ensures.stands; same = c.collect_step.ensures.same; shape = refl; tasks = refl; held = refl } in
+    subst (λ (x : DeviceState). steps_left n ≡ steps_left x) c.self.view_is (collect_left d n is (subst (λ (x : DeviceState). KeepsNoWrite x.tasks) (sym c.self.view_is) none))
+
+pub returns-in-Ok-Read-clause-foreign : goal.returns-in-Ok-Read-clause-foreign
+returns-in-Ok-Read-clause-foreign g c = λ chip first e at.
+    let s = c.self.inside in
+    let d : DeviceState = record { store = s.store; shape = s.shape; tasks = s.tasks.items; held = s.held.items; counts = s.counts } in
+    let n : DeviceState = record { store = c.collect_step.new.self; shape = s.shape; tasks = s.tasks.items; held = s.held.items; counts = s.counts } in
+    let ready : d.store.phase ≡ Ready = sym c.phase.ensures.phase ∙ c.in-Ready.is in
+    let is : IsCollecting d n = record { ready = ready; standing = c.phase.ensures.stands; same = c.collect_step.ensures.same; shape = refl; tasks = refl; held = refl } in
+    no_foreign d n is chip first e _ (subst (λ (x : DeviceState). DeviceStandsForeign x chip first e) (sym c.self.view_is) at)
+
+pub returns-in-Ok-Read-clause-left : goal.returns-in-Ok-Read-clause-left
+returns-in-Ok-Read-clause-left g c = λ none.
+    let s = c.self.inside in
+    let d : DeviceState = record { store = s.store; shape = s.shape; tasks = s.tasks.items; held = s.held.items; counts = s.counts } in
+    let n : DeviceState = record { store = c.collect_step.new.self; shape = s.shape; tasks = s.tasks.items; held = s.held.items; counts = s.counts } in
+    let ready : d.store.phase ≡ Ready = sym c.phase.ensures.phase ∙ c.in-Ready.is in
+    let is : IsCollecting d n = record { ready = ready; standing = c.phase.ensures.stands; same = c.collect_step.ensures.same; shape = refl; tasks = refl; held = refl } in
+    subst (λ (x : DeviceState). steps_left n ≡ steps_left x) c.self.view_is (collect_left d n is (subst (λ (x : DeviceState). KeepsNoWrite x.tasks) (sym c.self.view_is) none))
+
+pub returns-in-Ok-Page-clause-foreign : goal.returns-in-Ok-Page-clause-foreign
+returns-in-Ok-Page-clause-foreign g c = λ chip first e at.
+    let s = c.self.inside in
+    let d : DeviceState = record { store = s.store; shape = s.shape; tasks = s.tasks.items; held = s.held.items; counts = s.counts } in
+    let n : DeviceState = record { store = c.collect_step.new.self; shape = s.shape; tasks = s.tasks.items; held = s.held.items; counts = c.after_moved-self-inside.result } in
+    let ready : d.store.phase ≡ Ready = sym c.phase.ensures.phase ∙ c.in-Ready.is in
+    let is : IsCollecting d n = record { ready = ready; standing = c.phase.ensures.stands; same = c.collect_step.ensures.same; shape = refl; tasks = refl; held = refl } in
+    no_foreign d n is chip first e _ (subst (λ (x : DeviceState). DeviceStandsForeign x chip first e) (sym c.self.view_is) at)
+
+pub returns-in-Ok-Page-clause-left : goal.returns-in-Ok-Page-clause-left
+returns-in-Ok-Page-clause-left g c = λ none.
+    let s = c.self.inside in
+    let d : DeviceState = record { store = s.store; shape = s.shape; tasks = s.tasks.items; held = s.held.items; counts = s.counts } in
+    let n : DeviceState = record { store = c.collect_step.new.self; shape = s.shape; tasks = s.tasks.items; held = s.held.items; counts = c.after_moved-self-inside.result } in
+    let ready : d.store.phase ≡ Ready = sym c.phase.ensures.phase ∙ c.in-Ready.is in
+    let is : IsCollecting d n = record { ready = ready; standing = c.phase.ensures.stands; same = c.collect_step.ensures.same; shape = refl; tasks = refl; held = refl } in
+    subst (λ (x : DeviceState). steps_left n ≡ steps_left x) c.self.view_is (collect_left d n is (subst (λ (x : DeviceState). KeepsNoWrite x.tasks) (sym c.self.view_is) none))
+
+pub returns-in-Ok-Erased-clause-foreign : goal.returns-in-Ok-Erased-clause-foreign
+returns-in-Ok-Erased-clause-foreign g c = λ chip first e at.
+    let s = c.self.inside in
+    let d : DeviceState = record { store = s.store; shape = s.shape; tasks = s.tasks.items; held = s.held.items; counts = s.counts } in
+    let n : DeviceState = record { store = c.collect_step.new.self; shape = s.shape; tasks = s.tasks.items; held = s.held.items; counts = c.after_moved-self-inside-in-Ok-Erased.result } in
+    let ready : d.store.phase ≡ Ready = sym c.phase.ensures.phase ∙ c.in-Ready.is in
+    let is : IsCollecting d n = record { ready = ready; standing = c.phase.ensures.stands; same = c.collect_step.ensures.same; shape = refl; tasks = refl; held = refl } in
+    no_foreign d n is chip first e _ (subst (λ (x : DeviceState). DeviceStandsForeign x chip first e) (sym c.self.view_is) at)
+
+pub returns-in-Ok-Erased-clause-left : goal.returns-in-Ok-Erased-clause-left
+returns-in-Ok-Erased-clause-left g c = λ none.
+    let s = c.self.inside in
+    let d : DeviceState = record { store = s.store; shape = s.shape; tasks = s.tasks.items; held = s.held.items; counts = s.counts } in
+    let n : DeviceState = record { store = c.collect_step.new.self; shape = s.shape; tasks = s.tasks.items; held = s.held.items; counts = c.after_moved-self-inside-in-Ok-Erased.result } in
+    let ready : d.store.phase ≡ Ready = sym c.phase.ensures.phase ∙ c.in-Ready.is in
+    let is : IsCollecting d n = record { ready = ready; standing = c.phase.ensures.stands; same = c.collect_step.ensures.same; shape = refl; tasks = refl; held = refl } in
+    subst (λ (x : DeviceState). steps_left n ≡ steps_left x) c.self.view_is (collect_left d n is (subst (λ (x : DeviceState). KeepsNoWrite x.tasks) (sym c.self.view_is) none))
+
+pub returns-in-Ok-Idle-clause-none_left : goal.returns-in-Ok-Idle-clause-none_left
+returns-in-Ok-Idle-clause-none_left g c = λ is_ready zero.
+    let stands : IsStanding c.args.self.now.store = subst (λ (x : DeviceState). IsStanding x.store) c.self.view_is c.phase.ensures.stands in
+    stands.none_left is_ready zero
+
+pub returns-in-Err-clause-none_left : goal.returns-in-Err-clause-none_left
+returns-in-Err-clause-none_left g c = λ is_ready zero.
+    let stands : IsStanding c.args.self.now.store = subst (λ (x : DeviceState). IsStanding x.store) c.self.view_is c.phase.ensures.stands in
+    stands.none_left is_ready zero
+
+pub returns-in-Ok-Page-clause-stands : goal.returns-in-Ok-Page-clause-stands
+returns-in-Ok-Page-clause-stands g c = λ first e at.
+    let s = c.self.inside in
+    let d : DeviceState = record { store = s.store; shape = s.shape; tasks = s.tasks.items; held = s.held.items; counts = s.counts } in
+    let n : DeviceState = record { store = c.collect_step.new.self; shape = s.shape; tasks = s.tasks.items; held = s.held.items; counts = c.after_moved-self-inside.result } in
+    let ready : d.store.phase ≡ Ready = sym c.phase.ensures.phase ∙ c.in-Ready.is in
+    let is : IsCollecting d n = record { ready = ready; standing = c.phase.ensures.stands; same = c.collect_step.ensures.same; shape = refl; tasks = refl; held = refl } in
+    let moved : IsMoved d n (MovedPage c.in-Ok-Page.lun c.in-Ok-Page.lba) = moved_of_collect d n is (MovedPage c.in-Ok-Page.lun c.in-Ok-Page.lba) (subst (λ (m : Moved). IsCollected d.store m n.store) c.in-Ok-Page.field-0-is (c.in-Ok-Page.ensures.moved ready))
+    (subst (λ (m : Moved). Changes d.store.geometry d.store.luns d.store.units d.store.pages (as_collected m) n.store.pages) c.in-Ok-Page.field-0-is (c.in-Ok-Page.ensures.changes ready)) c.in-Ok-Page.ensures.unit c.after_moved-self-inside.ensures in
+    rw (c.new-in-Ok-Page.ensures) (moved_stands d n (MovedPage c.in-Ok-Page.lun c.in-Ok-Page.lba) [] first e moved (subst (λ (x : DeviceState). DeviceStands x first e) (sym c.self.view_is) at))
+
+pub returns-in-Ok-Page-clause-entries : goal.returns-in-Ok-Page-clause-entries
+returns-in-Ok-Page-clause-entries g c = λ e stand.
+    let s = c.self.inside in
+    let d : DeviceState = record { store = s.store; shape = s.shape; tasks = s.tasks.items; held = s.held.items; counts = s.counts } in
+    let n : DeviceState = record { store = c.collect_step.new.self; shape = s.shape; tasks = s.tasks.items; held = s.held.items; counts = c.after_moved-self-inside.result } in
+    let ready : d.store.phase ≡ Ready = sym c.phase.ensures.phase ∙ c.in-Ready.is in
+    let is : IsCollecting d n = record { ready = ready; standing = c.phase.ensures.stands; same = c.collect_step.ensures.same; shape = refl; tasks = refl; held = refl } in
+    let moved : IsMoved d n (MovedPage c.in-Ok-Page.lun c.in-Ok-Page.lba) = moved_of_collect d n is (MovedPage c.in-Ok-Page.lun c.in-Ok-Page.lba) (subst (λ (m : Moved). IsCollected d.store m n.store) c.in-Ok-Page.field-0-is (c.in-Ok-Page.ensures.moved ready))
+    (subst (λ (m : Moved). Changes d.store.geometry d.store.luns d.store.units d.store.pages (as_collected m) n.store.pages) c.in-Ok-Page.field-0-is (c.in-Ok-Page.ensures.changes ready)) c.in-Ok-Page.ensures.unit c.after_moved-self-inside.ensures in
+    rw (c.new-in-Ok-Page.ensures) (moved_entries d n (MovedPage c.in-Ok-Page.lun c.in-Ok-Page.lba) [] e moved (subst (λ (x : DeviceState). EntriesStand x e) (sym c.self.view_is) stand))
+
+pub returns-in-Ok-Page-clause-listings : goal.returns-in-Ok-Page-clause-listings
+returns-in-Ok-Page-clause-listings g c = λ had pages e stand.
+    let s = c.self.inside in
+    let d : DeviceState = record { store = s.store; shape = s.shape; tasks = s.tasks.items; held = s.held.items; counts = s.counts } in
+    let n : DeviceState = record { store = c.collect_step.new.self; shape = s.shape; tasks = s.tasks.items; held = s.held.items; counts = c.after_moved-self-inside.result } in
+    let ready : d.store.phase ≡ Ready = sym c.phase.ensures.phase ∙ c.in-Ready.is in
+    let is : IsCollecting d n = record { ready = ready; standing = c.phase.ensures.stands; same = c.collect_step.ensures.same; shape = refl; tasks = refl; held = refl } in
+    let moved : IsMoved d n (MovedPage c.in-Ok-Page.lun c.in-Ok-Page.lba) = moved_of_collect d n is (MovedPage c.in-Ok-Page.lun c.in-Ok-Page.lba) (subst (λ (m : Moved). IsCollected d.store m n.store) c.in-Ok-Page.field-0-is (c.in-Ok-Page.ensures.moved ready))
+    (subst (λ (m : Moved). Changes d.store.geometry d.store.luns d.store.units d.store.pages (as_collected m) n.store.pages) c.in-Ok-Page.field-0-is (c.in-Ok-Page.ensures.changes ready)) c.in-Ok-Page.ensures.unit c.after_moved-self-inside.ensures in
+    rw (c.new-in-Ok-Page.ensures) (moved_listings d n (MovedPage c.in-Ok-Page.lun c.in-Ok-Page.lba) [] had pages e moved (subst (λ (x : DeviceState). ListingStands had pages x e) (sym c.self.view_is) stand))
+
+pub returns-in-Ok-Erased-clause-stands : goal.returns-in-Ok-Erased-clause-stands
+returns-in-Ok-Erased-clause-stands g c = λ first e at.
+    let s = c.self.inside in
+    let d : DeviceState = record { store = s.store; shape = s.shape; tasks = s.tasks.items; held = s.held.items; counts = s.counts } in
+    let n : DeviceState = record { store = c.collect_step.new.self; shape = s.shape; tasks = s.tasks.items; held = s.held.items; counts = c.after_moved-self-inside-in-Ok-Erased.result } in
+    let ready : d.store.phase ≡ Ready = sym c.phase.ensures.phase ∙ c.in-Ready.is in
+    let is : IsCollecting d n = record { ready = ready; standing = c.phase.ensures.stands; same = c.collect_step.ensures.same; shape = refl; tasks = refl; held = refl } in
+    let moved : IsMoved d n (ErasedBlock c.in-Ok-Erased.block) = moved_of_collect d n is (ErasedBlock c.in-Ok-Erased.block) (subst (λ (m : Moved). IsCollected d.store m n.store) c.in-Ok-Erased.field-0-is (c.in-Ok-Erased.ensures.moved ready))
+    (subst (λ (m : Moved). Changes d.store.geometry d.store.luns d.store.units d.store.pages (as_collected m) n.store.pages) c.in-Ok-Erased.field-0-is (c.in-Ok-Erased.ensures.changes ready)) c.in-Ok-Erased.ensures.unit c.after_moved-self-inside-in-Ok-Erased.ensures in
+    rw (c.new-in-Ok-Erased.ensures) (moved_stands d n (ErasedBlock c.in-Ok-Erased.block) [] first e moved (subst (λ (x : DeviceState). DeviceStands x first e) (sym c.self.view_is) at))
+
+pub returns-in-Ok-Erased-clause-entries : goal.returns-in-Ok-Erased-clause-entries
+returns-in-Ok-Erased-clause-entries g c = λ e stand.
+    let s = c.self.inside in
+    let d : DeviceState = record { store = s.store; shape = s.shape; tasks = s.tasks.items; held = s.held.items; counts = s.counts } in
+    let n : DeviceState = record { store = c.collect_step.new.self; shape = s.shape; tasks = s.tasks.items; held = s.held.items; counts = c.after_moved-self-inside-in-Ok-Erased.result } in
+    let ready : d.store.phase ≡ Ready = sym c.phase.ensures.phase ∙ c.in-Ready.is in
+    let is : IsCollecting d n = record { ready = ready; standing = c.phase.ensures.stands; same = c.collect_step.ensures.same; shape = refl; tasks = refl; held = refl } in
+    let moved : IsMoved d n (ErasedBlock c.in-Ok-Erased.block) = moved_of_collect d n is (ErasedBlock c.in-Ok-Erased.block) (subst (λ (m : Moved). IsCollected d.store m n.store) c.in-Ok-Erased.field-0-is (c.in-Ok-Erased.ensures.moved ready))
+    (subst (λ (m : Moved). Changes d.store.geometry d.store.luns d.store.units d.store.pages (as_collected m) n.store.pages) c.in-Ok-Erased.field-0-is (c.in-Ok-Erased.ensures.changes ready)) c.in-Ok-Erased.ensures.unit c.after_moved-self-inside-in-Ok-Erased.ensures in
+    rw (c.new-in-Ok-Erased.ensures) (moved_entries d n (ErasedBlock c.in-Ok-Erased.block) [] e moved (subst (λ (x : DeviceState). EntriesStand x e) (sym c.self.view_is) stand))
+
+pub returns-in-Ok-Erased-clause-listings : goal.returns-in-Ok-Erased-clause-listings
+returns-in-Ok-Erased-clause-listings g c = λ had pages e stand.
+    let s = c.self.inside in
+    let d : DeviceState = record { store = s.store; shape = s.shape; tasks = s.tasks.items; held = s.held.items; counts = s.counts } in
+    let n : DeviceState = record { store = c.collect_step.new.self; shape = s.shape; tasks = s.tasks.items; held = s.held.items; counts = c.after_moved-self-inside-in-Ok-Erased.result } in
+    let ready : d.store.phase ≡ Ready = sym c.phase.ensures.phase ∙ c.in-Ready.is in
+    let is : IsCollecting d n = record { ready = ready; standing = c.phase.ensures.stands; same = c.collect_step.ensures.same; shape = refl; tasks = refl; held = refl } in
+    let moved : IsMoved d n (ErasedBlock c.in-Ok-Erased.block) = moved_of_collect d n is (ErasedBlock c.in-Ok-Erased.block) (subst (λ (m : Moved). IsCollected d.store m n.store) c.in-Ok-Erased.field-0-is (c.in-Ok-Erased.ensures.moved ready))
+    (subst (λ (m : Moved). Changes d.store.geometry d.store.luns d.store.units d.store.pages (as_collected m) n.store.pages) c.in-Ok-Erased.field-0-is (c.in-Ok-Erased.ensures.changes ready)) c.in-Ok-Erased.ensures.unit c.after_moved-self-inside-in-Ok-Erased.ensures in
+    rw (c.new-in-Ok-Erased.ensures) (moved_listings d n (ErasedBlock c.in-Ok-Erased.block) [] had pages e moved (subst (λ (x : DeviceState). ListingStands had pages x e) (sym c.self.view_is) stand))
+
+pub returns-in-Err-clause-foreign : goal.returns-in-Err-clause-foreign
+returns-in-Err-clause-foreign g c = λ chip first e at.
+    let s = c.self.inside in
+    let d : DeviceState = record { store = s.store; shape = s.shape; tasks = s.tasks.items; held = s.held.items; counts = s.counts } in
+    let n : DeviceState = record { store = c.collect_step.new.self; shape = s.shape; tasks = s.tasks.items; held = s.held.items; counts = s.counts } in
+    let ready : d.store.phase ≡ Ready = sym c.phase.ensures.phase ∙ c.in-Ready.is in
+    let is : IsCollecting d n = record { ready = ready; standing = c.phase.ensures.stands; same = c.collect_step.ensures.same; shape = refl; tasks = refl; held = refl } in
+    no_foreign d n is chip first e _ (subst (λ (x : DeviceState). DeviceStandsForeign x chip first e) (sym c.self.view_is) at)
+
+pub returns-in-Err-clause-left : goal.returns-in-Err-clause-left
+returns-in-Err-clause-left g c = λ none.
+    let s = c.self.inside in
+    let d : DeviceState = record { store = s.store; shape = s.shape; tasks = s.tasks.items; held = s.held.items; counts = s.counts } in
+    let n : DeviceState = record { store = c.collect_step.new.self; shape = s.shape; tasks = s.tasks.items; held = s.held.items; counts = s.counts } in
+    let ready : d.store.phase ≡ Ready = sym c.phase.ensures.phase ∙ c.in-Ready.is in
+    let is : IsCollecting d n = record { ready = ready; standing = c.phase.ensures.stands; same = c.collect_step.ensures.same; shape = refl; tasks = refl; held = refl } in
+    subst (λ (x : DeviceState). steps_left n ≡ steps_left x) c.self.view_is (collect_left d n is (subst (λ (x : DeviceState). KeepsNoWrite x.tasks) (sym c.self.view_is) none))
+
+pub returns-in-Err-clause-stands : goal.returns-in-Err-clause-stands
+returns-in-Err-clause-stands g c = λ first e at.
+    let s = c.self.inside in
+    let d : DeviceState = record { store = s.store; shape = s.shape; tasks = s.tasks.items; held = s.held.items; counts = s.counts } in
+    let n : DeviceState = record { store = c.collect_step.new.self; shape = s.shape; tasks = s.tasks.items; held = s.held.items; counts = s.counts } in
+    let ready : d.store.phase ≡ Ready = sym c.phase.ensures.phase ∙ c.in-Ready.is in
+    let is : IsCollecting d n = record { ready = ready; standing = c.phase.ensures.stands; same = c.collect_step.ensures.same; shape = refl; tasks = refl; held = refl } in
+    let here : DeviceStands d first e = subst (λ (x : DeviceState). DeviceStands x first e) (sym c.self.view_is) at in
+    let fault = c.in-Err.ensures.fault ready in
+    let same : IsSameStore d.store n.store = record { geometry = is.same.geometry; luns = is.same.luns; units = is.same.units } in
+    rw (c.new-in-Err.ensures) (unmoved_stands d n c.in-Err.op first e same fault.chip refl refl refl refl (sound_along d n same fault.chip here.sound) here)

@@ -1,0 +1,44 @@
+use Rattle.std.proofs.Common.{refl, sym, ap, subst}
+use Rattle.hpb_device.specs.Advance.{IsSameStore}
+use Rattle.hpb_device.specs.Listed.{ListingStands}
+use Rattle.hpb_device.specs.Standing.{DeviceStands}
+use Rattle.hpb_device.specs.State.{DeviceState}
+use Rattle.flash_store.specs.Store.{StoreState}
+use Rattle.hpb_device.proofs.Collecting.{reset_listings, reset_stands}
+use Rattle.hpb_device.proofs.Unready.{sound_along}
+use Rattle.hpb_device.proofs.device.Device.reset.Given.{Over}
+use Rattle.hpb_device.proofs.device.Device.reset.Goals.{After-reset}
+use Rattle.hpb_device.proofs.device.Device.reset.Goals as goal
+
+-- the device before the call, and after it
+abbrev before : (g : Over) → After-reset g → DeviceState
+before g c = let s = c.self.inside in record { store = s.store; shape = s.shape; tasks = s.tasks.items; held = s.held.items; counts = s.counts }
+
+abbrev after : (g : Over) → After-reset g → DeviceState
+after g c = record (before g c) { store = c.reset.new.self; tasks = c.clear.new.self.items; held = c.clear-2.new.self.items }
+
+pub returns-clause-stands : goal.returns-clause-stands
+returns-clause-stands g c = λ first e at.
+    let d = before g c in
+    let n = after g c in
+    let here : DeviceStands d first e = subst (λ (x : DeviceState). DeviceStands x first e) (sym c.self.view_is) at in
+    let store = c.reset.ensures in
+    let same : IsSameStore d.store n.store = record {
+      geometry = ap (λ (z : StoreState). z.geometry) store;
+      luns = ap (λ (z : StoreState). z.luns) store;
+      units = ap (λ (z : StoreState). z.units) store;
+    } in
+    let pages = ap (λ (z : StoreState). z.pages) store in
+    reset_stands d n first e same pages refl c.clear.ensures c.clear-2.ensures.items refl (sound_along d n same pages here.sound) here
+
+pub returns-clause-listings : goal.returns-clause-listings
+returns-clause-listings g c = λ had pages e stand.
+    let d = before g c in
+    let n = after g c in
+    let here : ListingStands had pages d e = subst (λ (x : DeviceState). ListingStands had pages x e) (sym c.self.view_is) stand in
+    let store = c.reset.ensures in
+    reset_listings had pages d n e (record {
+      geometry = ap (λ (z : StoreState). z.geometry) store;
+      luns = ap (λ (z : StoreState). z.luns) store;
+      units = ap (λ (z : StoreState). z.units) store;
+    }) (ap (λ (z : StoreState). z.pages) store) refl c.clear.ensures here

@@ -168,6 +168,9 @@ pub fn run_words(alloc: Global, words: &str, text: &[u8], outside: Outside) -> R
         calls,
         room,
     } = outside;
+    if !chip.is_within_limits() {
+        return Err(Fail::new("a chip outside its limits"));
+    }
     let mut source = MemSource::new(text.to_vec(alloc)?, cuts, reads);
     let mut sink = MemSink::new(alloc, room, writes)?;
     let flash = MemFlash::new(alloc, chip, calls)?;

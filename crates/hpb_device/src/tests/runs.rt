@@ -313,7 +313,9 @@ fn overwritten_blocks_are_kept(rt: HostRuntime) -> Result<(), Fail> {
         let mut flash = run.device.into_flash();
         assert_eq!(rt; erased_of(rt.alloc(), &mut flash, 32)?, room, "{alone}");
         // each page that was programmed used one up, and each erase gave four
-        assert_eq!(rt; room + written + moved, 32 + 4 * erased, "{alone}");
+        let used = written.saturating_add(moved).saturating_add(room);
+        let given = erased.saturating_mul(4).saturating_add(32);
+        assert_eq!(rt; used, given, "{alone}");
     }
     Ok(())
 }

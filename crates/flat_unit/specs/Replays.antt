@@ -24,15 +24,19 @@ pub record OpenRun : Type 0 where
   pub has_write : Bool
 
 -- how far a replay has come: the events, the step groups without a failed call since the last reset, whether the entry
--- of the next block was tried in vain, and the runs that may go on
+-- of the next block was tried in vain, the runs that may go on, all calls of `step`, whether a step has served a task
+-- since the last reset, and the calls of `collect` since any other call, or since one that failed
 pub record Progress : Type 0 where
   pub events : History
   pub quiet : ℕ
   pub tried : Bool
   pub runs : List OpenRun
+  pub steps : ℕ
+  pub served : Bool
+  pub collected : ℕ
 
 abbrev pub begun : Progress
-begun = record { events = []; quiet = 0; tried = false; runs = [] }
+begun = record { events = []; quiet = 0; tried = false; runs = []; steps = 0; served = false; collected = 0 }
 
 abbrev pub tasks_at : Sizes → Progress → List Task
 tasks_at s p = tasks_after s p.events
@@ -89,6 +93,16 @@ IsTimely s p g =
     (g.sent ≡ None → IsTrue (may_be_silent s p))
     ((bytes : List ℕ) → g.sent ≡ Some bytes → IsTrue (is_some g.failed) × (sense_code bytes ≡ Some 0x44))
 
+-- what tells that the chip is none of the device's, or could not be read
+abbrev pub is_unready : Option ℕ → Bool
+is_unready (Some code) = code == 0x44
+is_unready None = false
+
+-- a step serves a task: it sends anything else
+abbrev pub serves : Option (List ℕ) → Bool
+serves (Some bytes) = not (is_unready (sense_code bytes))
+serves None = false
+
 -- after a step
 abbrev pub stepped : Sizes → Progress → Group → Progress
 stepped s p g = record {
@@ -96,6 +110,9 @@ stepped s p g = record {
   quiet = if is_none g.failed then p.quiet + 1 else p.quiet;
   tried = is_none g.sent && (p.tried || is_due s p);
   runs = p.runs;
+  steps = p.steps + 1;
+  served = p.served || serves g.sent;
+  collected = 0;
 }
 
 pub record StepTo (s : Sizes) (p now : Progress) : Type 0 where
@@ -172,11 +189,33 @@ received s p bytes = record {
   quiet = p.quiet;
   tried = p.tried && keeps_head (tasks_at s p) (tasks_after s (told s p bytes));
   runs = [];
+  steps = p.steps;
+  served = p.served;
+  collected = 0;
 }
 
 -- a reset drops the tasks, and the device looks at its whole chip again
 abbrev pub reset : Progress → Progress
-reset p = record { events = p.events ▹ Reset; quiet = 0; tried = false; runs = [] }
+reset p = record {
+  events = p.events ▹ Reset;
+  quiet = 0;
+  tried = false;
+  runs = [];
+  steps = p.steps;
+  served = false;
+  collected = 0;
+}
+
+abbrev pub is_failure : Event → Bool
+is_failure (Failed op) = true
+is_failure _ = false
+
+-- after so many calls of `collect` that made these events
+abbrev pub collected_to : ℕ → List Event → Progress → Progress
+collected_to n group p = record p {
+  events = followed_by p.events group;
+  collected = if list_any is_failure group then 0 else p.collected + n;
+}
 
 -- a drain steps until nothing can go on
 pub record Drains (s : Sizes) (p now : Progress) : Type 0 where
@@ -190,7 +229,7 @@ pub record Collects (n : ℕ) (p now : Progress) : Type 0 where
   pub group : List Event
   pub few : length group ≤ n
   pub collection : All IsCollection group
-  pub leads : now ≡ without_writes (record p { events = followed_by p.events group })
+  pub leads : now ≡ without_writes (collected_to n group p)
 
 -- so many calls of `step`
 pub record Runs (s : Sizes) (n : ℕ) (p now : Progress) : Type 0 where

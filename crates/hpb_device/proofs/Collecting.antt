@@ -1,18 +1,22 @@
 -- A device that stands at a history stands at it after a step of the collector, and its entries and pages with it.
-use Rattle.std.proofs.Common.{◌≡◌, ◌≢◌, length, inl, ℕ, ◌+◌, ◌-◌, ◌*◌, ◌^◌, Bool, true, false, List, [], map, min, Option, Some, None, refl, sym, ◌∙◌, ap, subst, arith}
+use Rattle.std.proofs.Common.{◌≡◌, ◌≢◌, ◌⊎◌, length, inl, inr, ℕ, ◌+◌, ◌-◌, ◌*◌, ◌^◌, Bool, true, false, List, [], map, min, Option, Some, None, refl, sym, ◌∙◌, ap, subst, arith}
 use Rattle.std.specs.Prelude.{if◌then◌else◌, is_some}
 use Rattle.hpb_outside.specs.Faults.{raised}
 use Rattle.flash_pages.specs.Chip.{Page, erased_count}
 use Rattle.flash_pages.specs.Place.{Place}
 use Rattle.flash_pages.specs.Unit.{current, next_seq, unit_of}
 use Rattle.flash_pages.proofs.Programming.{erased_count-programmed, next_seq-programmed}
-use Rattle.collector_laws.specs.Changes.{Changes, CopiesBlock}
+use Rattle.collector_laws.specs.Changes.{AreCollected, Changes, CopiesBlock, is_idle, left_with, uncollected}
+use Rattle.collector_laws.specs.CollectStep.{CollectState, IsCollectable, Step, collect_step}
+use Rattle.collector_laws.proofs.Changes.{uncollected-none}
+use Rattle.collector_laws.proofs.Keeps.{collect_keeps}
 use Rattle.flash_store.specs.declared.answers.Moved.{Moved}
 use Rattle.flash_store.specs.declared.answers.Moved.TheVariants.{Idle, Read as ReadPage, Page as MovedPage, Erased as ErasedBlock}
 use Rattle.flash_store.specs.declared.answers.Phase.TheVariants.{Ready}
 use Rattle.flash_store.specs.Collecting.{as_collected}
-use Rattle.flash_store.specs.Store.{IsCollected, IsSame, IsStanding}
+use Rattle.flash_store.specs.Store.{IsCollected, IsSame, IsStanding, collecting}
 use Rattle.flash_pages.specs.declared.chip.Geometry.{Geometry}
+use Rattle.flat_unit.specs.Causes.{FailuresAre}
 use Rattle.flat_unit.specs.Contents.{is_same}
 use Rattle.flat_unit.specs.declared.event.Event.{Event}
 use Rattle.flash_pages.specs.declared.chip.ChipOp.{ChipOp}
@@ -22,6 +26,7 @@ use Rattle.flat_unit.specs.Pages.{HasPages}
 use Rattle.flat_unit.specs.Replays.{events_of}
 use Rattle.flat_unit.specs.Sizes.{Sizes}
 use Rattle.flat_unit.specs.Stands.{First, Kept}
+use Rattle.flat_unit.specs.Writes.{moves}
 use Rattle.flat_unit.proofs.entries.Fresh.{fresh_along, fresh_collected}
 use Rattle.flat_unit.proofs.entries.Pages.{pages_along, pages_moved, pages_reset}
 use Rattle.flat_unit.proofs.standing.OneCall.{same_place, stands_erased, stands_failed, stands_moved, stands_reset}
@@ -30,7 +35,7 @@ use Rattle.hpb_device.specs.declared.counts.Counts.{Counts}
 use Rattle.hpb_device.specs.declared.device.Stepped.{Stepped}
 use Rattle.hpb_device.specs.declared.task.Task.{Task}
 use Rattle.hpb_device.specs.Advance.{IsSameStore}
-use Rattle.hpb_device.specs.Calls.{Collects, moved_by, stepped}
+use Rattle.hpb_device.specs.Calls.{Collects, CollectsOn, moved_by, stepped, uncollected_in}
 use Rattle.hpb_device.specs.Left.{KeepsNoWrite, steps_left, tasks_left, wait_of}
 use Rattle.hpb_device.specs.Limits.{limits_of}
 use Rattle.hpb_device.specs.Counts.{counted_moved, counted_step}
@@ -40,6 +45,7 @@ use Rattle.hpb_device.specs.Listed.{ListingStands, kept_now}
 use Rattle.hpb_device.specs.Standing.{DeviceStands, DeviceStandsForeign, group_of, kept_of, programmed_of, sizes_of}
 use Rattle.hpb_device.specs.State.{DeviceState, IsSound}
 use Rattle.hpb_device.proofs.Entries.{entries_now, tried_stays}
+use Rattle.hpb_device.proofs.Failures.{moved_fails_none, none_failed, one_failed}
 use Rattle.hpb_device.proofs.Listings.{current_more, listings_now}
 use Rattle.hpb_device.proofs.Chips.{whole_collected}
 use Rattle.hpb_device.proofs.Leaving.{on_false}
@@ -279,3 +285,67 @@ module _ (old new : DeviceState) (is : IsCollecting old new) where
     hits = hits;
     outcome = inl (moved, record { busy = busy; step = step; changes = changes; faults = faults; counts = counts; result_is = result_is });
   })
+
+  -- where none is left after it, there is nothing to collect, or no sequence number
+  pub collected_over : (moved : Moved) → IsCollected old.store moved new.store → uncollected_in new ≡ 0
+      → (next_seq new.store.pages ≡ 2 ^ 62) ⊎ AreCollected new.store.geometry new.store.pages
+  collected_over moved step none =
+      let s = old.store in
+      let kept = (collect_keeps s.geometry s.luns s.units (collecting s) (is.standing.ready is.ready)).0 in
+      let state : (collect_step s.geometry (collecting s)).state ≡ collecting new.store = ap (λ (t : Step). t.state) step in
+      let now : IsCollectable s.geometry s.luns s.units (collecting new.store) = subst (λ (c : CollectState). IsCollectable s.geometry s.luns s.units c) state kept in
+      let left : uncollected s.geometry (collecting new.store) ≡ 0 = ap (λ (g : Geometry). uncollected g (collecting new.store)) (sym is.same.geometry) ∙ none in
+      subst (λ (g : Geometry). (next_seq new.store.pages ≡ 2 ^ 62) ⊎ AreCollected g new.store.pages) (sym is.same.geometry)
+      (uncollected-none s.geometry s.luns s.units (collecting new.store) now left)
+
+-- an idle step leaves none
+pub idle_leaves_none : (old new : DeviceState) → IsCollected old.store Idle new.store → uncollected_in old ≡ 0
+idle_leaves_none old new step =
+    let s = collecting old.store in
+    let g = old.store.geometry in
+    ap (λ (t : Step). if is_idle t.did then 0 else left_with g s.chip s.buffer s.victim) step
+
+-- the pages that a step of the collector moved, where they are counted
+pub moves_told : (counts : Counts) (moved : Moved) (out : List ℕ) (n : ℕ) → counts.moved ≡ min n (2 ^ 64 - 1)
+    → (counted_moved counts moved).moved ≡ min (n + moves (moves_on moved out [])) (2 ^ 64 - 1)
+moves_told counts Idle out n at = omega (arith, at)
+moves_told counts ReadPage out n at = omega (arith, at)
+moves_told counts (MovedPage lun lba) out n at = omega (arith, at)
+moves_told counts (ErasedBlock block) out n at = omega (arith, at)
+
+same_steps : (counts : Counts) (moved : Moved) → (counted_moved counts moved).steps ≡ counts.steps
+same_steps counts Idle = refl
+same_steps counts ReadPage = refl
+same_steps counts (MovedPage lun lba) = refl
+same_steps counts (ErasedBlock block) = refl
+
+-- what a call of `collect` counts
+pub collect_moves_counted : (old new : DeviceState) (result : Stepped) (n : ℕ) → CollectsOn old new result → old.counts.moved ≡ min n (2 ^ 64 - 1)
+    → new.counts.moved ≡ min (n + moves (followed_by [] (events_of (group_of result [])))) (2 ^ 64 - 1)
+collect_moves_counted old new result n collects at = elim collects.outcome [
+  | inl step ↦ rw (step.1.result_is) (ap (λ (c : Counts). c.moved) step.1.counts ∙ moves_told old.counts step.0 [] n at)
+  | inr fault ↦
+      let same : new.counts.moved ≡ old.counts.moved = ap (λ (c : Counts). c.moved) fault.1.counts in
+      rw (fault.1.result_is) (omega (arith, same, at))
+]
+
+pub collect_steps_counted : (old new : DeviceState) (result : Stepped) → CollectsOn old new result → new.counts.steps ≡ old.counts.steps
+collect_steps_counted old new result collects = elim collects.outcome [
+  | inl step ↦ ap (λ (c : Counts). c.steps) step.1.counts ∙ same_steps old.counts step.0
+  | inr fault ↦ ap (λ (c : Counts). c.steps) fault.1.counts
+]
+
+-- the failures that it tells are those that the count of faults has
+pub collect_fails : (old new : DeviceState) (result : Stepped) → CollectsOn old new result
+    → FailuresAre old.store.faults new.store.faults (followed_by [] (events_of (group_of result [])))
+collect_fails old new result collects = elim collects.outcome [
+  | inl step ↦ rw (step.1.result_is) (none_failed old.store.faults new.store.faults _ (moved_fails_none step.0 []) step.1.faults)
+  | inr fault ↦ rw (fault.1.result_is) (one_failed old.store.faults new.store.faults _ refl fault.1.faults.0 fault.1.faults.1)
+]
+
+-- it sends nothing
+pub collect_sends_none : (old new : DeviceState) (result : Stepped) → CollectsOn old new result → result.sent ≡ false
+collect_sends_none old new result collects = elim collects.outcome [
+  | inl step ↦ ap (λ (r : Stepped). r.sent) step.1.result_is
+  | inr fault ↦ ap (λ (r : Stepped). r.sent) fault.1.result_is
+]

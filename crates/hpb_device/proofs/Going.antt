@@ -1,6 +1,6 @@
 -- What a step of a device tells, and where it leaves the device, whatever its command.
-use Rattle.std.proofs.Common.{◌≡◌, ◌⊎◌, ℕ, ◌+◌, ◌-◌, ◌*◌, ◌<◌, ◌≤◌, true, false, nat_lt, List, [], ◌∷◌, map, Option, Some, None, refl, sym, ◌∙◌, ap, subst, arith, inl, inr}
-use Rattle.std.proofs.lemmas.Bool.{false≢true}
+use Rattle.std.proofs.Common.{◌≡◌, ◌⊎◌, ℕ, ◌+◌, ◌-◌, ◌*◌, ◌^◌, ◌<◌, ◌≤◌, min, true, false, nat_lt, List, [], ◌∷◌, map, Option, Some, None, refl, sym, ◌∙◌, ap, subst, arith, inl, inr}
+use Rattle.std.proofs.lemmas.Bool.{false≢true, or_parts}
 use Rattle.std.proofs.lemmas.Bool.Decides.{nat_tests}
 use Rattle.std.specs.Prelude.{if◌then◌else◌, is_none, is_some}
 use Rattle.std.specs.List.{AllByRecursion}
@@ -12,7 +12,7 @@ use Rattle.flash_store.specs.declared.answers.Moved.TheVariants.{Idle, Read as R
 use Rattle.flash_store.specs.declared.answers.Phase.{Phase}
 use Rattle.flash_store.specs.declared.answers.Phase.TheVariants.{Scanning, Ready, Foreign}
 use Rattle.flash_store.specs.Store.{StoreState}
-use Rattle.hpb_outside.specs.Faults.{Rose}
+use Rattle.hpb_outside.specs.Faults.{Rose, raised}
 use Rattle.hpb_cdb.specs.declared.limits.Limits.{Limits}
 use Rattle.upiu_wire.specs.Upiu.{upiu_at, upiu_out}
 use Rattle.upiu_wire.specs.Kind.{kind_of}
@@ -20,33 +20,43 @@ use Rattle.hpb_device.specs.Reply.{reply_upiu, cause_sense}
 use Rattle.hpb_device.specs.declared.reply.Reply.TheVariants.{Check}
 use Rattle.hpb_device.specs.declared.reply.Cause.{Cause}
 use Rattle.hpb_device.specs.declared.reply.Cause.TheVariants.{ReadFailed, WriteFailed, UnknownOpcode, OutOfRange, InvalidField, NoSuchUnit, NoNumber, DataNotAsked, ChipFailed}
-use Rattle.flat_unit.specs.Causes.{FailuresAre, failures, sense_code}
-use Rattle.flat_unit.specs.History.{History, followed_by}
+use Rattle.flat_unit.specs.Causes.{FailuresAre, sense_code}
+use Rattle.flat_unit.specs.Command.{is_write}
+use Rattle.flat_unit.specs.History.{followed_by}
 use Rattle.flat_unit.specs.Queue.{at_rest}
-use Rattle.flat_unit.specs.Replays.{IsGroup, events_of, has_asked}
-use Rattle.flat_unit.specs.Stands.{Stands}
+use Rattle.flat_unit.specs.Replays.{IsGroup, events_of, has_asked, keeps_write}
+use Rattle.flat_unit.specs.Stands.{First, Stands}
 use Rattle.flat_unit.specs.Task.{Task as Waiting}
+use Rattle.flat_unit.specs.Writes.{moves}
 use Rattle.flat_unit.proofs.standing.Foreign.{foreign_begun}
 use Rattle.flat_unit.proofs.standing.OneCall.{stands_begun}
 use Rattle.flash_pages.specs.Chip.{erased_count}
 use Rattle.flash_pages.specs.Unit.{unit_of, next_seq}
+use Rattle.hpb_device.specs.declared.advance.FailedCall.TheVariants.{MappedRead}
 use Rattle.hpb_device.specs.declared.advance.Progress.{Progress}
 use Rattle.hpb_device.specs.declared.advance.Progress.TheVariants.{Sends, Silent, Ended, Failed}
 use Rattle.hpb_device.specs.declared.advance.Internal.TheVariants.{Missed, Programmed, Collected}
+use Rattle.hpb_device.specs.declared.advance.Transfer.TheVariants.{LookedUp, ByEntry}
+use Rattle.hpb_device.specs.declared.counts.Counts.{Counts}
 use Rattle.hpb_device.specs.declared.device.Stepped.{Stepped}
 use Rattle.hpb_device.specs.declared.task.Task.{Task}
 use Rattle.hpb_device.specs.Advance.{Advances, IsSameStore}
-use Rattle.hpb_device.specs.Left.{unscanned}
+use Rattle.hpb_device.specs.Counts.{counted, counted_step}
+use Rattle.hpb_device.specs.Left.{KeepsNoWrite, unscanned}
 use Rattle.hpb_device.specs.Limits.{limits_of}
-use Rattle.hpb_device.specs.Calls.{EndsUnread, GoesOn, Leaves, StepsIn, moved_by, stepped}
+use Rattle.hpb_device.specs.Calls.{EndsUnread, GoesOn, Leaves, Refuses, Scans, StepsIn, moved_by, stepped}
 use Rattle.hpb_device.specs.Keeps.{KeepsTasks, IsTaskOf, waiting_of}
 use Rattle.hpb_device.specs.Standing.{DeviceStands, DeviceStandsForeign, first_of, group_of, kept_of, programmed_of, sizes_of}
 use Rattle.hpb_device.specs.State.{DeviceState, AreAtRest, AtRest, IsSound}
 use Rattle.hpb_device.specs.StoreCounts.{CountsFault}
 use Rattle.hpb_device.specs.Task.{IsTaskOk, IsWaiting, tries_entry}
+use Rattle.hpb_device.proofs.Collecting.{moves_told}
 use Rattle.hpb_device.proofs.Commands.{is_written}
+pub use Rattle.hpb_device.proofs.Failures.{none_failed, one_failed}
+use Rattle.hpb_device.proofs.Failures.{moved_fails_none}
 use Rattle.hpb_device.proofs.StepStands.{sizes_same}
 use Rattle.hpb_device.proofs.Stepping.{serves_same}
+use Rattle.hpb_device.proofs.Transfers.{same_command}
 
 -- the code of a CHECK CONDITION
 pub check_tells : (lun tag residual : ℕ) (cause : Cause) → sense_code (upiu_out (reply_upiu (Check lun tag residual cause))) ≡ Some (cause_sense cause).asc
@@ -62,18 +72,6 @@ check_tells lun tag residual DataNotAsked = refl
 check_tells lun tag residual ChipFailed = refl
 
 -- the failures that a step tells are those that the count of faults has
-none_failed : (before now : ℕ) (e : History) → failures e ≡ 0 → now ≡ before → FailuresAre before now e
-none_failed before now e none same = record { least = omega (arith, none, same); most = omega (arith, none, same) }
-
-one_failed : (before now : ℕ) (e : History) → failures e ≡ 1 → Rose before now → now ≤ before + 1 → FailuresAre before now e
-one_failed before now e one rose once = record { least = rw one rose; most = omega (arith, one, once) }
-
-moved_fails_none : (moved : Moved) (out : List ℕ) → failures (followed_by [] (events_of (group_of (stepped None (moved_by moved) false) out))) ≡ 0
-moved_fails_none Idle out = refl
-moved_fails_none ReadPage out = refl
-moved_fails_none (MovedPage lun lba) out = refl
-moved_fails_none (ErasedBlock block) out = refl
-
 fails_by : (before now : ℕ) (progress : Progress) (others tasks : List Task) (held : List ℕ) (result : Stepped) (out : List ℕ) → CountsFault before now progress
     → Leaves progress others tasks held result out
     → FailuresAre before now (followed_by [] (events_of (group_of result out)))
@@ -174,19 +172,56 @@ going_scanned Scanning old new result out scans sound none = absurd (omega (arit
 going_scanned Ready old new result out goes sound none = goes
 going_scanned Foreign old new result out refuses sound none = absurd (refuses.foreign sound)
 
+-- where no page is left to scan it goes on with the first task, or refuses it
+pub going_due : (phase : Phase) (old new : DeviceState) (result : Stepped) (out : List ℕ) → StepsIn phase old new result out → unscanned old ≡ 0
+    → GoesOn old new result out ⊎ Refuses old new result out
+going_due Scanning old new result out scans none = absurd (omega (arith, scans.more, none))
+going_due Ready old new result out goes none = inl goes
+going_due Foreign old new result out refuses none = inr refuses
+
+-- a task that ends unread is answered with 44h
+unread_code : (failed : Option ChipOp) (tasks left : List Task) (result : Stepped) (out : List ℕ) → EndsUnread failed tasks left result out → result.sent ≡ true → sense_code out ≡ Some 0x44
+unread_code failed [] left result out ends sends = absurd (false≢true (sym (ap (λ (r : Stepped). r.sent) ends.1) ∙ sends))
+unread_code failed (task ∷ others) left result out ends sends = ap sense_code ends.2 ∙ check_tells task.lun task.tag _ ChipFailed
+
+scans_code : (old new : DeviceState) (result : Stepped) (out : List ℕ) → Scans old new result out → result.sent ≡ true → sense_code out ≡ Some 0x44
+scans_code old new result out scans sends = elim scans.outcome [
+  | inl reads ↦ absurd (false≢true (sym (ap (λ (r : Stepped). r.sent) reads.result_is) ∙ sends))
+  | inr misses ↦ unread_code (Some ReadCall) old.tasks new.tasks result out misses.ends sends
+]
+
 -- while pages are left, it sends nothing but an answer to a failed look at the chip
 pub going_scans : (phase : Phase) (old new : DeviceState) (result : Stepped) (out : List ℕ) → StepsIn phase old new result out → 0 < unscanned old → result.sent ≡ true
     → (is_some result.failed ≡ true) × (sense_code out ≡ Some 0x44)
 going_scans Scanning old new result out scans some sends = elim scans.outcome [
   | inl reads ↦ absurd (false≢true (sym (ap (λ (r : Stepped). r.sent) reads.result_is) ∙ sends))
-  | inr misses ↦ unread_code old.tasks misses.ends
+  | inr misses ↦ (call_failed old.tasks misses.ends, unread_code (Some ReadCall) old.tasks new.tasks result out misses.ends sends)
 ]
   where
-    unread_code : (tasks : List Task) → EndsUnread (Some ReadCall) tasks new.tasks result out → (is_some result.failed ≡ true) × (sense_code out ≡ Some 0x44)
-    unread_code [] ends = absurd (false≢true (sym (ap (λ (r : Stepped). r.sent) ends.1) ∙ sends))
-    unread_code (task ∷ others) ends = (ap (λ (r : Stepped). is_some r.failed) ends.1, ap sense_code ends.2 ∙ check_tells task.lun task.tag _ ChipFailed)
+    call_failed : (tasks : List Task) → EndsUnread (Some ReadCall) tasks new.tasks result out → is_some result.failed ≡ true
+    call_failed [] ends = ap (λ (r : Stepped). is_some r.failed) ends.1
+    call_failed (task ∷ others) ends = ap (λ (r : Stepped). is_some r.failed) ends.1
 going_scans Ready old new result out goes some sends = absurd (omega (arith, goes.scanned, some))
 going_scans Foreign old new result out refuses some sends = absurd (omega (arith, refuses.scanned, some))
+
+-- on a chip that isn't sound it sends nothing but 44h
+pub going_unready : (phase : Phase) (old new : DeviceState) (result : Stepped) (out : List ℕ) → StepsIn phase old new result out → ¬ IsSound old → result.sent ≡ true
+    → sense_code out ≡ Some 0x44
+going_unready Scanning old new result out scans unsound sends = scans_code old new result out scans sends
+going_unready Ready old new result out goes unsound sends = absurd (unsound goes.sound)
+going_unready Foreign old new result out refuses unsound sends = unread_code None old.tasks new.tasks result out refuses.ends sends
+
+-- only a step on a ready chip sends anything else, and the chip stays ready
+pub going_serves : (phase : Phase) (old new : DeviceState) (result : Stepped) (out : List ℕ) → StepsIn phase old new result out → result.sent ≡ true → (sense_code out ≡ Some 0x44 → ⊥)
+    → phase ≡ Ready
+going_serves Scanning old new result out scans sends other = absurd (other (scans_code old new result out scans sends))
+going_serves Ready old new result out goes sends other = refl
+going_serves Foreign old new result out refuses sends other = absurd (other (unread_code None old.tasks new.tasks result out refuses.ends sends))
+
+pub going_stays_ready : (old new : DeviceState) (result : Stepped) (out : List ℕ) → StepsIn old.store.phase old new result out → old.store.phase ≡ Ready → new.store.phase ≡ Ready
+going_stays_ready old new result out steps ready =
+    let goes : GoesOn old new result out = subst (λ (phase : Phase). StepsIn phase old new result out) ready steps in
+    goes.same.phase ∙ ready
 
 -- a device at rest stays so
 waiting_goes : (luns : ℕ) (lim : Limits) (tasks : List Task) → AllByRecursion (IsWaiting luns lim) tasks → AreAtRest tasks → tasks ≡ []
@@ -205,6 +240,17 @@ going_rests Scanning old new result out scans rests = elim scans.outcome [
 going_rests Ready old new result out goes rests = let waits : goes.task.come < goes.task.asked = subst AreAtRest goes.was rests in absurd (omega (arith, waits, goes.goes))
 going_rests Foreign old new result out refuses rests =
     subst AreAtRest (sym (none_left None old.tasks new.tasks result out (waiting_goes old.store.luns (limits_of old.shape) old.tasks refuses.waiting rests) refuses.ends)) tt
+
+-- a step on a foreign chip that keeps a task answers it
+ends_sends : (failed : Option ChipOp) (tasks left : List Task) (result : Stepped) (out : List ℕ) → EndsUnread failed tasks left result out → (tasks ≡ [] → ⊥) → result.sent ≡ true
+ends_sends failed [] left result out ends some = absurd (some refl)
+ends_sends failed (task ∷ others) left result out ends some = ap (λ (r : Stepped). r.sent) ends.1
+
+pub refusing_sends : (old new : DeviceState) (result : Stepped) (out : List ℕ) → Refuses old new result out → (old.tasks ≡ [] → ⊥) → result.sent ≡ true
+refusing_sends old new result out refuses some = ends_sends None old.tasks new.tasks result out refuses.ends some
+
+pub refusing_goes : (old new : DeviceState) (result : Stepped) (out : List ℕ) → Refuses old new result out → (old.tasks ≡ [] → ⊥) → AtRest old → ⊥
+refusing_goes old new result out refuses some rests = some (waiting_goes old.store.luns (limits_of old.shape) old.tasks refuses.waiting rests)
 
 -- an empty queue is at rest
 pub no_task_rests : (device : DeviceState) → device.tasks ≡ [] → AtRest device
@@ -273,13 +319,14 @@ begins_standing device none unerased sound = record {
       (stands_begun (sizes_of device) (unit_of device.store.luns device.store.units device.store.pages) (next_seq device.store.pages) (erased_count device.store.pages));
 }
 
-pub begins_foreign : (device : DeviceState) → device.tasks ≡ [] → ¬ IsSound device → DeviceStandsForeign device device.store.pages (first_of device) []
-begins_foreign device none unsound = record {
+-- over a chip that isn't sound it stands at no events, whatever it began with
+pub begins_foreign : (device : DeviceState) (first : First) → device.tasks ≡ [] → ¬ IsSound device → DeviceStandsForeign device device.store.pages first []
+begins_foreign device first none unsound = record {
   tasks = [];
   keeps = subst (λ (ts : List Task). KeepsTasks ts device.held []) (sym none) refl;
   stays = refl;
   unsound = unsound;
-  stands = foreign_begun (sizes_of device) (unit_of device.store.luns device.store.units device.store.pages) (next_seq device.store.pages) (erased_count device.store.pages) (kept_of 0 device []) refl refl;
+  stands = foreign_begun (sizes_of device) first.unit first.next first.free (kept_of 0 device []) refl refl;
 }
 
 -- a device that doesn't go on is at rest
@@ -289,3 +336,103 @@ rest_by (head ∷ others) other = let not_over : (head.come < head.asked → ⊥
 
 pub at_rest_of : (device : DeviceState) → ((AtRest device → ⊥) → ⊥) → AtRest device
 at_rest_of device other = rest_by device.tasks other
+
+-- no write is kept behind a step where none was kept
+no_write_kept : (task rest : Task) (others tasks : List Task) → tasks ≡ rest ∷ others → rest.command ≡ task.command → KeepsNoWrite (task ∷ others) → KeepsNoWrite tasks
+no_write_kept task rest others tasks is same none = subst KeepsNoWrite (sym is) (ap is_write same ∙ none.0, none.1)
+
+no_write_by : (lim : Limits) (old new : StoreState) (held held_now : List ℕ) (task : Task) (progress : Progress) (others tasks : List Task) (left : List ℕ) (result : Stepped) (out : List ℕ)
+    → Advances lim old new held held_now task progress out → Leaves progress others tasks left result out → KeepsNoWrite (task ∷ others) → KeepsNoWrite tasks
+no_write_by lim old new held held_now task (Sends what rest) others tasks left result out advances leaves none =
+    no_write_kept task rest others tasks leaves.0 (same_command lim old what task rest out advances.0) none
+no_write_by lim old new held held_now task (Silent Missed rest) others tasks left result out advances leaves none =
+    no_write_kept task rest others tasks leaves.0 (ap (λ (t : Task). t.command) advances.0.0.task_is) none
+no_write_by lim old new held held_now task (Silent Programmed rest) others tasks left result out advances leaves none =
+    no_write_kept task rest others tasks leaves.0 (ap (λ (t : Task). t.command) advances.0.1.task_is) none
+no_write_by lim old new held held_now task (Silent (Collected moved) rest) others tasks left result out advances leaves none =
+    no_write_kept task rest others tasks leaves.0 (ap (λ (t : Task). t.command) advances.0.task_is) none
+no_write_by lim old new held held_now task (Ended reply) others tasks left result out advances leaves none = subst KeepsNoWrite (sym leaves.0) none.1
+no_write_by lim old new held held_now task (Failed what reply) others tasks left result out advances leaves none = subst KeepsNoWrite (sym leaves.0) none.1
+
+unread_no_write : (failed : Option ChipOp) (tasks left : List Task) (result : Stepped) (out : List ℕ) → EndsUnread failed tasks left result out → KeepsNoWrite tasks → KeepsNoWrite left
+unread_no_write failed [] left result out ends none = subst KeepsNoWrite (sym ends.0) tt
+unread_no_write failed (task ∷ others) left result out ends none = subst KeepsNoWrite (sym ends.0) none.1
+
+pub going_keeps_no_write : (phase : Phase) (old new : DeviceState) (result : Stepped) (out : List ℕ) → StepsIn phase old new result out → KeepsNoWrite old.tasks → KeepsNoWrite new.tasks
+going_keeps_no_write Scanning old new result out scans none = elim scans.outcome [
+  | inl reads ↦ subst KeepsNoWrite (sym reads.tasks) none
+  | inr misses ↦ unread_no_write (Some ReadCall) old.tasks new.tasks result out misses.ends none
+]
+going_keeps_no_write Ready old new result out goes none =
+    no_write_by (limits_of old.shape) old.store new.store old.held new.held goes.task goes.progress goes.others new.tasks new.held result out goes.advances goes.leaves
+    (subst KeepsNoWrite goes.was none)
+going_keeps_no_write Foreign old new result out refuses none = unread_no_write None old.tasks new.tasks result out refuses.ends none
+
+-- none is kept where the history keeps none
+waiting_no_write : (others : List Task) → keeps_write (map waiting_of others) ≡ false → KeepsNoWrite others
+waiting_no_write [] none = tt
+waiting_no_write (next ∷ others) none =
+    let parts = or_parts (is_write next.command) (keeps_write (map waiting_of others)) none in
+    (parts.0, waiting_no_write others parts.1)
+
+pub keeps_no_write : (kept : List Task) (held : List ℕ) (tasks : List Waiting) → KeepsTasks kept held tasks → keeps_write tasks ≡ false → KeepsNoWrite kept
+keeps_no_write [] held tasks keeps none = tt
+keeps_no_write (head ∷ others) held tasks keeps none =
+    let now : keeps_write (keeps.0 ∷ map waiting_of others) ≡ false = subst (λ (ts : List Waiting). keeps_write ts ≡ false) keeps.2 none in
+    let parts = or_parts (is_write keeps.0.command) (keeps_write (map waiting_of others)) now in
+    (ap is_write (sym keeps.1.command) ∙ parts.0, waiting_no_write others parts.1)
+
+-- a step counts itself once
+counted_steps : (counts : Counts) (progress : Progress) → (counted counts progress).steps ≡ raised counts.steps
+counted_steps counts (Sends LookedUp rest) = refl
+counted_steps counts (Sends ByEntry rest) = refl
+counted_steps counts (Sends what rest) = refl
+counted_steps counts (Silent (Collected Idle) rest) = refl
+counted_steps counts (Silent (Collected ReadPage) rest) = refl
+counted_steps counts (Silent (Collected (MovedPage lun lba)) rest) = refl
+counted_steps counts (Silent (Collected (ErasedBlock block)) rest) = refl
+counted_steps counts (Silent what rest) = refl
+counted_steps counts (Ended reply) = refl
+counted_steps counts (Failed MappedRead reply) = refl
+counted_steps counts (Failed what reply) = refl
+
+pub going_steps_counted : (phase : Phase) (old new : DeviceState) (result : Stepped) (out : List ℕ) → StepsIn phase old new result out → new.counts.steps ≤ old.counts.steps + 1
+going_steps_counted Scanning old new result out scans = let is = ap (λ (c : Counts). c.steps) scans.counts in omega (arith, is)
+going_steps_counted Ready old new result out goes = let is = ap (λ (c : Counts). c.steps) goes.counts ∙ counted_steps old.counts goes.progress in omega (arith, is)
+going_steps_counted Foreign old new result out refuses = let is = ap (λ (c : Counts). c.steps) refuses.counts in omega (arith, is)
+
+-- the pages that the collector moved, where they are counted
+none_moved : (count n : ℕ) → count ≡ min n (2 ^ 64 - 1) → count ≡ min (n + 0) (2 ^ 64 - 1)
+none_moved count n at = omega (arith, at)
+
+moves_by : (counts : Counts) (progress : Progress) (others tasks : List Task) (held : List ℕ) (result : Stepped) (out : List ℕ) (n : ℕ) → Leaves progress others tasks held result out
+    → counts.moved ≡ min n (2 ^ 64 - 1) → (counted counts progress).moved ≡ min (n + moves (followed_by [] (events_of (group_of result out)))) (2 ^ 64 - 1)
+moves_by counts (Sends LookedUp rest) others tasks held result out n leaves at = rw (leaves.1) (none_moved counts.moved n at)
+moves_by counts (Sends ByEntry rest) others tasks held result out n leaves at = rw (leaves.1) (none_moved counts.moved n at)
+moves_by counts (Sends what rest) others tasks held result out n leaves at = rw (leaves.1) (none_moved counts.moved n at)
+moves_by counts (Silent (Collected moved) rest) others tasks held result out n leaves at = rw (leaves.1) (moves_told (counted_step counts) moved out n at)
+moves_by counts (Silent what rest) others tasks held result out n leaves at = rw (leaves.1) (none_moved counts.moved n at)
+moves_by counts (Ended reply) others tasks held result out n leaves at = rw (leaves.2) (none_moved counts.moved n at)
+moves_by counts (Failed MappedRead reply) others tasks held result out n leaves at = rw (leaves.2) (none_moved counts.moved n at)
+moves_by counts (Failed what reply) others tasks held result out n leaves at = rw (leaves.2) (none_moved counts.moved n at)
+
+unread_moves : (failed : Option ChipOp) (tasks left : List Task) (result : Stepped) (out : List ℕ) → EndsUnread failed tasks left result out
+    → moves (followed_by [] (events_of (group_of result out))) ≡ 0
+unread_moves None [] left result out ends = rw (ends.1) refl
+unread_moves None (task ∷ others) left result out ends = rw (ends.1) refl
+unread_moves (Some op) [] left result out ends = rw (ends.1) refl
+unread_moves (Some op) (task ∷ others) left result out ends = rw (ends.1) refl
+
+pub going_moves_counted : (phase : Phase) (old new : DeviceState) (result : Stepped) (out : List ℕ) (n : ℕ) → StepsIn phase old new result out → old.counts.moved ≡ min n (2 ^ 64 - 1)
+    → new.counts.moved ≡ min (n + moves (followed_by [] (events_of (group_of result out)))) (2 ^ 64 - 1)
+going_moves_counted Scanning old new result out n scans at =
+    let same = ap (λ (c : Counts). c.moved) scans.counts in
+    elim scans.outcome [
+      | inl reads ↦ rw (reads.result_is) (same ∙ none_moved old.counts.moved n at)
+      | inr misses ↦ rw (unread_moves (Some ReadCall) old.tasks new.tasks result out misses.ends) (same ∙ none_moved old.counts.moved n at)
+    ]
+going_moves_counted Ready old new result out n goes at =
+    ap (λ (c : Counts). c.moved) goes.counts ∙ moves_by old.counts goes.progress goes.others new.tasks new.held result out n goes.leaves at
+going_moves_counted Foreign old new result out n refuses at =
+    let same = ap (λ (c : Counts). c.moved) refuses.counts in
+    rw (unread_moves None old.tasks new.tasks result out refuses.ends) (same ∙ none_moved old.counts.moved n at)

@@ -2,6 +2,7 @@ pub mod Chips
 pub mod Commands
 pub mod Collecting
 pub mod Entries
+pub mod Failures
 pub mod Going
 pub mod Harmless
 pub mod Hintless

@@ -1,15 +1,15 @@
 -- The chip of a device has the pages of its history, and what it lists tells of them, after each call.
 use Rattle.std.proofs.Common.{◌≡◌, ◌⊎◌, ℕ, ◌+◌, ◌-◌, ◌*◌, ◌/◌, ◌%◌, ◌^◌, ◌<◌, ◌≤◌, ◌==◌, Bool, true, false, ◌||◌, List, [], ◌∷◌, ◌++◌, filter, length, length-take, map, take, min, Option, Some, None, refl, sym, ◌∙◌, ap, subst, arith, inl, inr}
-use Rattle.std.specs.Prelude.{if◌then◌else◌, slice_range, slice_set, unwrap_or}
+use Rattle.std.specs.Prelude.{if◌then◌else◌, is_some, slice_range, slice_set, unwrap_or}
 use Rattle.std.specs.List.{AllByRecursion}
 use Rattle.std.proofs.lemmas.Bool.{false≢true}
 use Rattle.std.proofs.lemmas.Bool.Decides.{nat_tests}
 use Rattle.flash_pages.specs.declared.chip.Geometry.{Geometry}
 use Rattle.flash_pages.specs.declared.chip.Spare.{Spare}
-use Rattle.flash_pages.specs.Chip.{Page, Written, erased_chip}
+use Rattle.flash_pages.specs.Chip.{Page, Written}
 use Rattle.flash_pages.specs.Place.{Place, IsPlace}
 use Rattle.flash_pages.specs.Unit.{current, next_seq}
-use Rattle.flash_pages.proofs.Programming.{current-erased, current-inside, current-others, current-programmed}
+use Rattle.flash_pages.proofs.Programming.{current-inside, current-others, current-programmed}
 use Rattle.flash_store.specs.Entries.{entry_for}
 use Rattle.collector_laws.specs.Changes.{ProgramsBlock}
 use Rattle.flash_store.specs.Store.{StoreState}
@@ -148,14 +148,23 @@ has_ended : (d now : DeviceState) (luns : ℕ) (lim : Limits) (others : List Tas
 has_ended d now luns lim others waiting left p one =
     absurd (false≢true (sym (ap (λ (ts : List Task). programmed_at ts p) left ∙ waiting_programmed luns lim others p waiting) ∙ one))
 
--- a device that was just made over an erased chip
-pub begins_listings : (device : DeviceState) → device.tasks ≡ [] → device.store.pages ≡ erased_chip device.store.geometry
-    → ListingStands (λ p. false) (device.store.geometry.blocks * device.store.geometry.pages) device []
-begins_listings device none erased = record {
+-- what the first chip had, where nothing is programmed yet and no write took DATA OUT
+there_by : (has programmed : Bool) → programmed ≡ false → (has || (false || programmed)) ≡ true → has ≡ true
+there_by true programmed none is = refl
+there_by false programmed none is = absurd (false≢true (sym none ∙ is))
+
+absent_by : (o : Option ℕ) → (is_some o || false) ≡ false → o ≡ None
+absent_by None is = refl
+absent_by (Some page) is = absurd (false≢true (sym is))
+
+-- a device without a task stands at no events, over any chip
+pub begins_listings : (device : DeviceState) → device.tasks ≡ []
+    → ListingStands (λ p. is_some (current device.store.pages p)) (device.store.geometry.blocks * device.store.geometry.pages) device []
+begins_listings device none = record {
   whole = refl;
   pages_there = record {
-    there = λ p place one. absurd (false≢true (sym (ap (λ (ts : List Task). programmed_at ts p) none) ∙ one));
-    absent = λ p place one. ap (λ (chip : List Page). current chip p) erased ∙ current-erased p (device.store.geometry.blocks * device.store.geometry.pages);
+    there = λ p place one. there_by (is_some (current device.store.pages p)) (programmed_at device.tasks p) (ap (λ (ts : List Task). programmed_at ts p) none) one;
+    absent = λ p place one. absent_by (current device.store.pages p) one;
   };
   told = tt;
 }

@@ -34,10 +34,10 @@ use Rattle.hpb_device.specs.Keeps.{KeepsTasks, waiting_of}
 use Rattle.hpb_device.specs.Limits.{limits_of}
 use Rattle.hpb_device.specs.Standing.{DeviceStands, kept_of, sizes_of}
 use Rattle.flat_unit.specs.Tasks.{AreApart}
-use Rattle.hpb_device.specs.State.{DeviceState, IsSound}
+use Rattle.hpb_device.specs.State.{DeviceState, IsIdleIn}
 use Rattle.hpb_device.specs.Task.{IsTaskOk, WasSilent, tries_entry, tries_entry_of}
 use Rattle.hpb_device.proofs.Commands.{is_written, tries_of}
-use Rattle.hpb_device.proofs.Going.{sent_or_silent}
+use Rattle.hpb_device.proofs.Going.{refusing_sends, sent_or_silent}
 use Rattle.hpb_device.proofs.StepStands.{given_is}
 
 -- after a step that sent nothing
@@ -66,17 +66,17 @@ unread_silent failed [] left result out ends silent was = absurd was
 unread_silent failed (task ∷ others) left result out ends silent was = absurd (sent_or_silent result failed ends.1 silent)
 
 -- a step was due, or one before it had sent nothing
-pub going_was_silent : (phase : Phase) (old new : DeviceState) (result : Stepped) (out : List ℕ) → StepsIn phase old new result out → IsSound old → result.sent ≡ false
+pub going_was_silent : (phase : Phase) (old new : DeviceState) (result : Stepped) (out : List ℕ) → StepsIn phase old new result out → (IsIdleIn phase old.tasks → ⊥) → result.sent ≡ false
     → (unscanned old ≡ 0) ⊎ WasSilent old.tasks → WasSilent new.tasks
-going_was_silent Scanning old new result out scans sound silent was = elim was [
+going_was_silent Scanning old new result out scans busy silent was = elim was [
   | inl none ↦ absurd (omega (arith, none, scans.more))
   | inr before ↦ elim scans.outcome [
     | inl reads ↦ subst WasSilent (sym reads.tasks) before
     | inr misses ↦ unread_silent (Some ReadCall) old.tasks new.tasks result out misses.ends silent before
   ]
 ]
-going_was_silent Ready old new result out goes sound silent was = silent_after old new goes.task goes.others goes.progress result out goes.ok goes.advances goes.leaves silent
-going_was_silent Foreign old new result out refuses sound silent was = absurd (refuses.foreign sound)
+going_was_silent Ready old new result out goes busy silent was = silent_after old new goes.task goes.others goes.progress result out goes.ok goes.advances goes.leaves silent
+going_was_silent Foreign old new result out refuses busy silent was = absurd (false≢true (sym silent ∙ refusing_sends old new result out refuses busy))
 
 -- a task that tries an entry was not silent
 not_written : (command : Cdb) (task : Task) → tries_entry_of command task ≡ true → is_write command ≡ false

@@ -1,5 +1,5 @@
 -- What was sent for a task that goes on, whatever it was.
-use Rattle.std.proofs.Common.{◌≡◌, ◌⊎◌, ℕ, ◌+◌, ◌/◌, take, List, inl, inr}
+use Rattle.std.proofs.Common.{◌≡◌, ◌⊎◌, ℕ, ◌+◌, ◌/◌, take, List, ap, inl, inr}
 use Rattle.flash_pages.specs.Unit.{block_of}
 use Rattle.flash_store.specs.Store.{StoreState}
 use Rattle.hpb_cdb.specs.declared.limits.Limits.{Limits}
@@ -26,3 +26,11 @@ transfer_is lim old EntryList task rest out lists =
     inl (take lists.0 (entries_of old.pages task.lun (first_listed lim task.command + task.sent / 8) ((lists.0 + 7) / 8)), lists.1.sent)
 transfer_is lim old UnitCapacity task rest out tells = inl (capacity_of old.units, tells.sent)
 transfer_is lim old Ready task rest out asks = inr (asks.0, asks.1.sent)
+
+-- its command stays
+pub same_command : (lim : Limits) (old : StoreState) (what : Transfer) (task rest : Task) (out : List ℕ) → Transfers lim old what task rest out → rest.command ≡ task.command
+same_command lim old LookedUp task rest out shows = ap (λ (t : Task). t.command) shows.sends.task_is
+same_command lim old ByEntry task rest out finds = ap (λ (t : Task). t.command) finds.sends.task_is
+same_command lim old EntryList task rest out lists = ap (λ (t : Task). t.command) lists.1.task_is
+same_command lim old UnitCapacity task rest out tells = ap (λ (t : Task). t.command) tells.task_is
+same_command lim old Ready task rest out asks = ap (λ (t : Task). t.command) asks.1.task_is

@@ -104,7 +104,7 @@ Stays (Ended reply) held held_now out out_now = ⊤
 Stays (Failed what reply) held held_now out out_now = ⊤
 Stays _ held held_now out out_now = (held_now ≡ held) × (out_now ≡ out)
 
--- on a ready chip the first task went on by one step
+-- on a ready chip, which is sound, the first task went on by one step
 pub record GoesOn (old new : DeviceState) (result : Stepped) (out : List ℕ) : Type 0 where
   pub task : Task
   pub others : List Task
@@ -113,6 +113,7 @@ pub record GoesOn (old new : DeviceState) (result : Stepped) (out : List ℕ) : 
   pub ok : IsTaskOk old.store.luns (limits_of old.shape) task
   pub goes : task.come ≡ task.asked
   pub scanned : unscanned old ≡ 0
+  pub sound : IsSound old
   pub advances : Advances (limits_of old.shape) old.store new.store old.held new.held task progress out
   pub leaves : Leaves progress others new.tasks new.held result out
   pub same : IsSame old.store new.store

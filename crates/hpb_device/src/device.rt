@@ -342,6 +342,9 @@ impl<F: Flash> Device<F> {
             ≤ 2 * self.old.store.geometry.pages * (self.old.store.geometry.blocks * self.old.store.geometry.pages) }
         ensures none_left { self.old.store.phase ≡ Phase.Ready → uncollected_in self.old ≡ 0
             → (next_seq self.old.store.pages ≡ 2 ^ 62) ⊎ AreCollected self.old.store.geometry self.old.store.pages }
+        ensures rests { IsTrue result.idle → self.old.store.phase ≡ Phase.Ready → uncollected_in self.old ≡ 0 }
+        ensures over { self.old.store.phase ≡ Phase.Ready → result.failed ≡ None → uncollected_in self.new ≡ 0
+            → (next_seq self.new.store.pages ≡ 2 ^ 62) ⊎ AreCollected self.new.store.geometry self.new.store.pages }
         ensures left { KeepsNoWrite self.old.tasks → steps_left self.new ≡ steps_left self.old }
         ensures shape { self.new.shape ≡ self.old.shape }
     {

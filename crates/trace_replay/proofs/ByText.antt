@@ -1,18 +1,16 @@
 -- The status of a run is that of its text, where no call of the source or the sink failed.
 use Rattle.std.proofs.Common.{◌≡◌, ◌⊎◌, ℕ, suc, ◌+◌, ◌<◌, ◌≤◌, Bool, true, false, ◌&&◌, nat_le, nat_lt, List, [], ◌∷◌, ◌++◌, length, Option, Some, None, refl, sym, ◌∙◌, ap, subst, arith, inl, inr, length-append}
-use Rattle.std.specs.Prelude.{All, is_some, map, if◌then◌else◌, ◌==◌}
+use Rattle.std.specs.Prelude.{is_some, map, if◌then◌else◌, ◌==◌}
 use Rattle.std.specs.List.{AllByRecursion, prefix_len}
 use Rattle.std.proofs.lemmas.Bool.{le-leb}
-use Rattle.std.proofs.lemmas.List.Elements.{All-head, All-tail}
 use Rattle.std.proofs.lemmas.Bool.Decides.{nat_tests}
-use Rattle.flat_unit.specs.Trace.{Line, Upiu, Steps, Collect, Drain, ResetLine, Blank}
+use Rattle.flat_unit.specs.Trace.{Line}
 use Rattle.trace_text.specs.Grammar.{trace_line}
 use Rattle.trace_text.specs.Lines.{BeginsLong, EndsAt, IsLine, TakesLine, WhereTold, lines_of}
 use Rattle.trace_text.specs.Shown.{shown_line}
 use Rattle.trace_text.proofs.LinesOf.{lines_of-long, lines_of-none, lines_of-takes}
-use Rattle.trace_replay.specs.ByText.{is_served, is_shown_line, is_trace_line, status_by, status_of}
-use Rattle.trace_replay.specs.Moments.{IsServedLine}
-use Rattle.trace_replay.specs.Run.{HasMore, IsBadNext, IsLong, IsRefusedText, TakesLines}
+use Rattle.trace_replay.specs.ByText.{is_shown_line, is_trace_line, status_by, status_of}
+use Rattle.trace_replay.specs.Run.{HasMore, IsBadNext, IsLong, TakesLines}
 use Rattle.trace_replay.specs.Showing.{IsUnshown}
 use Rattle.trace_replay.specs.declared.status.Status.{Status}
 use Rattle.trace_replay.specs.declared.status.Status.TheVariants.{Done, BadLine, LongTrace}
@@ -75,39 +73,23 @@ ends_long good limit text texts more all counted some lines =
     let whole : length (lines_of text) ≡ length texts + length more = ap length lines ∙ length-append texts more in
     sym ((λ i. status_by limit (passes i) (whole i)) ∙ by_long limit (length texts + prefix_len good more) (length texts + length more) (omega arith) (omega arith))
 
--- the lines that were served, or shown, are good
-served_is : (line : Line) → IsServedLine line → is_served (Some line) ≡ true
-served_is (Upiu bytes) served = refl
-served_is (Steps n) served = refl
-served_is (Collect n) served = absurd served
-served_is Drain served = refl
-served_is ResetLine served = absurd served
-served_is Blank served = refl
-
-unserved_is : (line : Line) → (IsServedLine line → ⊥) → is_served (Some line) ≡ false
-unserved_is (Upiu bytes) other = absurd (other tt)
-unserved_is (Steps n) other = absurd (other tt)
-unserved_is (Collect n) other = refl
-unserved_is Drain other = absurd (other tt)
-unserved_is ResetLine other = refl
-unserved_is Blank other = absurd (other tt)
-
+-- the lines that were taken, or shown, are good
 short : (line : List ℕ) → IsLine line → nat_le (length line) 131200 ≡ true
 short line one = le-leb (length line) 131200 one.size
 
 long : (line : List ℕ) → 131200 < length line → nat_le (length line) 131200 ≡ false
 long line over = grind (arith, nat_tests)
 
-pub all_served : (left : Option (List ℕ)) (texts : List (List ℕ)) (lines : List Line) (mid : Option (List ℕ)) → TakesLines left texts mid
-    → map trace_line texts ≡ map (λ (line : Line). Some line) lines → All IsServedLine lines
+pub all_parsed : (left : Option (List ℕ)) (texts : List (List ℕ)) (lines : List Line) (mid : Option (List ℕ)) → TakesLines left texts mid
+    → map trace_line texts ≡ map (λ (line : Line). Some line) lines
     → AllByRecursion (λ (line : List ℕ). is_trace_line line ≡ true) texts
-all_served left [] lines mid taken parsed serves = tt
-all_served left (text ∷ texts) [] mid taken parsed serves = absurd (unequal parsed)
+all_parsed left [] lines mid taken parsed = tt
+all_parsed left (text ∷ texts) [] mid taken parsed = absurd (unequal parsed)
   where
     unequal : {x : Option Line} {xs : List (Option Line)} → x ∷ xs ≡ [] → ⊥
     unequal is = cc
-all_served left (text ∷ texts) (line ∷ lines) mid (now, one, takes, more) parsed serves =
-    (rw (short text one, head parsed, served_is line (All-head IsServedLine line lines serves)) refl, all_served now texts lines mid more (tail parsed) (All-tail IsServedLine line lines serves))
+all_parsed left (text ∷ texts) (line ∷ lines) mid (now, one, takes, more) parsed =
+    (rw (short text one, head parsed) refl, all_parsed now texts lines mid more (tail parsed))
   where
     head : {a b : Option Line} {xs ys : List (Option Line)} → a ∷ xs ≡ b ∷ ys → a ≡ b
     head is = cc
@@ -149,13 +131,9 @@ taken_is_bad : (test : List ℕ → Bool) (text line : List ℕ) (behind : Optio
 taken_is_bad test text line None takes none = absurd takes
 taken_is_bad test text line (Some rest) takes none = (line, lines_of rest, lines_of-takes line text rest takes, bad_test (nat_le (length line) 131200) (test line) none)
 
-refused_is : (text : List ℕ) → IsRefusedText text → is_served (trace_line text) ≡ false
-refused_is text (inl none) = ap is_served none
-refused_is text (inr (line, is, other)) = ap is_served is ∙ unserved_is line other
-
 pub begins_bad : (text : List ℕ) (behind : Option (List ℕ)) → IsBadNext (Some text) behind → BeginsBad is_trace_line text
-begins_bad text behind (inl (begins, _)) = long_is_bad (λ (line : List ℕ). is_served (trace_line line)) text begins
-begins_bad text behind (inr (line, takes, refused)) = taken_is_bad (λ (line : List ℕ). is_served (trace_line line)) text line behind takes (refused_is line refused)
+begins_bad text behind (inl (begins, _)) = long_is_bad (λ (line : List ℕ). is_some (trace_line line)) text begins
+begins_bad text behind (inr (line, takes, none)) = taken_is_bad (λ (line : List ℕ). is_some (trace_line line)) text line behind takes (ap is_some none)
 
 pub begins_unshown : (text : List ℕ) (behind : Option (List ℕ)) → IsUnshown (Some text) behind → BeginsBad is_shown_line text
 begins_unshown text behind (inl (begins, _)) = long_is_bad (λ (line : List ℕ). is_some (shown_line line)) text begins

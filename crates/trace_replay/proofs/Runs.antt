@@ -1,7 +1,6 @@
 -- A run goes on line by line, and how it ends.
 use Rattle.std.proofs.Common.{◌≡◌, ℕ, ◌+◌, ◌<◌, ◌≤◌, List, [], ◌∷◌, ◌++◌, length, Option, Some, None, refl, sym, ◌∙◌, ap, subst, arith, inl, inr, ◌⊎◌, length-append}
 use Rattle.std.proofs.lemmas.List.{append_assoc, append-nil, map-append}
-use Rattle.std.proofs.lemmas.List.Elements.{All-nil, All-push}
 use Rattle.std.specs.Io.KnownBytes.{Appends, Keeps, prepend_known}
 use Rattle.flat_unit.specs.Print.{print}
 use Rattle.flat_unit.specs.Replays.{Progress, LineTo, Replays, begun}
@@ -11,19 +10,21 @@ use Rattle.flat_unit.specs.Sizes.{Sizes}
 use Rattle.flat_unit.specs.Trace.{Line}
 use Rattle.flat_unit.proofs.History.{replays_more}
 use Rattle.hpb_device.specs.Standing.{first_of, sizes_of}
-use Rattle.hpb_device.specs.State.{DeviceState, IsSound}
+use Rattle.hpb_device.specs.declared.counts.Counts.{Counts}
+use Rattle.hpb_device.specs.Counts.{no_counts}
+use Rattle.hpb_device.specs.State.{DeviceState}
 use Rattle.hpb_device.proofs.Entries.{begins_entries}
-use Rattle.hpb_device.proofs.Going.{begins_standing}
+use Rattle.hpb_device.proofs.Going.{begins_foreign, begins_standing}
 use Rattle.hpb_device.proofs.Listings.{begins_listings}
-use Rattle.flash_pages.specs.Chip.{erased_chip}
 use Rattle.std.proofs.lemmas.Bool.{false≢true}
 use Rattle.trace_text.specs.Grammar.{trace_line}
 use Rattle.trace_text.specs.Lines.{IsLine, TakesLine, EndsAt, WhereTold}
 use Rattle.trace_replay.specs.declared.status.Status.{Status}
 use Rattle.trace_replay.specs.declared.status.Status.TheVariants.{Done, BadLine, ReadFault, WriteFault, LongTrace, Usage, Memory, Geometry, ChipFault, BadImage, BadCapture}
-use Rattle.trace_replay.specs.Moments.{Standing, Leads, Cuts, IsServedLine}
-use Rattle.trace_replay.specs.Run.{CountsFault, HasMore, IsBadNext, IsCutNext, IsCutShort, LastIs, Ran, ReadsAhead, RunIs, SinkEnds, SourceEnds, StopsWithinLine, TakesLines, bad_line_text, long_text}
+use Rattle.trace_replay.specs.Moments.{ForeignStanding, OwnStanding, Standing, Leads, Cuts}
+use Rattle.trace_replay.specs.Run.{CountsFault, HasMore, IsBadNext, IsCutNext, IsCutShort, LastIs, Ran, ReadsAhead, RunIs, SinkEnds, SourceEnds, StopsWithinLine, TakesLines, bad_line_text, counts_text, long_text}
 use Rattle.trace_replay.specs.Writes.{AppendsFront, HasWrittenUpTo}
+use Rattle.trace_replay.proofs.Decided.{sound_or_not}
 use Rattle.trace_replay.proofs.Written.{gathers_more, nothing_yet}
 
 -- what holds between two lines
@@ -35,11 +36,24 @@ pub takes_more : (left : Option (List ℕ)) (texts : List (List ℕ)) (mid now :
 takes_more left [] mid now text same line takes = (now, line, subst (λ (from : Option (List ℕ)). WhereTold (TakesLine text) from now) same takes, refl)
 takes_more left (t ∷ texts) mid now text taken line takes = (taken.0, taken.1, taken.2, takes_more taken.0 texts mid now text taken.3 line takes)
 
-pub ran_begins : (start : DeviceState) (left w : Option (List ℕ)) (gathered : List ℕ) → start.tasks ≡ [] → start.counts.erased ≡ 0 → start.store.pages ≡ erased_chip start.store.geometry
-    → IsSound start → start.store.scanned ≡ 0 → Rattle.std.proofs.Common.◌≤◌ 1 start.store.geometry.pages → gathered ≡ []
+-- the chip that a device begins with is sound, or it isn't
+begins_chip : (start : DeviceState) → start.tasks ≡ [] → start.counts ≡ no_counts → OwnStanding start start begun ⊎ ForeignStanding start start begun
+begins_chip start none uncounted = elim (sound_or_not start.store.geometry start.store.luns start.store.units start.store.pages) [
+  | inl sound ↦ inl (record {
+    was = sound;
+    stands = begins_standing start none (ap (λ (c : Counts). c.erased) uncounted) sound;
+    entries = begins_entries start none;
+    listings = begins_listings start none;
+    tried = λ is. absurd (false≢true is);
+  })
+  | inr unsound ↦ inr (record { stands = λ first. begins_foreign start first none unsound; unready = tt; untried = refl })
+]
+
+pub ran_begins : (start : DeviceState) (left w : Option (List ℕ)) (gathered : List ℕ) → start.tasks ≡ [] → start.counts ≡ no_counts → start.store.scanned ≡ 0
+    → Rattle.std.proofs.Common.◌≤◌ 1 start.store.geometry.pages → gathered ≡ []
     → Ran (sizes_of start) left left 0 (StandsAndPrinted start start w w gathered)
 unfolding print
-ran_begins start left w gathered none unerased erased sound scanned some fresh = record {
+ran_begins start left w gathered none uncounted scanned some fresh = record {
   texts = [];
   lines = [];
   moment = begun;
@@ -48,31 +62,38 @@ ran_begins start left w gathered none unerased erased sound scanned some fresh =
   counted = refl;
   replays = refl;
   drains = refl;
-  serves = All-nil IsServedLine;
   shows = (
     record {
       some_page = some;
-      stands = begins_standing start none unerased sound;
       sizes = refl;
       same = record { geometry = refl; luns = refl; units = refl };
       faults = record { least = omega arith; most = omega arith };
       plain = record { bytes = tt; short = tt; hintless = tt };
-      entries = begins_entries start none;
-      listings = begins_listings start none erased;
       lacking = tt;
-      tried = λ is. absurd (false≢true is);
       quiet = omega (arith, scanned);
+      steps = let none_made : start.counts.steps ≡ 0 = ap (λ (c : Counts). c.steps) uncounted in omega (arith, none_made);
+      moved = ap (λ (c : Counts). c.moved) uncounted;
+      ready = λ served. absurd (false≢true served);
+      collected = λ ready more. absurd (omega (arith, more));
+      chip = begins_chip start none uncounted;
     },
     rw fresh (nothing_yet w []),
   );
 }
 
+-- the events so far are sound
+sound_at : (start now : DeviceState) (p : Progress) → Standing start now p → SoundSoFar (sizes_of start) (first_of start).unit p.events
+sound_at start now p at = subst (λ (s : Sizes). SoundSoFar s (first_of start).unit p.events) at.sizes (elim at.chip [
+  | inl own ↦ own.stands.stands.sound.so_far
+  | inr foreign ↦ (foreign.stands (first_of start)).stands.sound.so_far
+])
+
 pub ran_more : (start old new : DeviceState) (left mid now before w written : Option (List ℕ)) (gathered gathered_now : List ℕ) (n next : ℕ)
     → (ran : Ran (sizes_of start) left mid n (StandsAndPrinted start old before w gathered))
-    → (text : List ℕ) (line : Line) → IsLine text → WhereTold (TakesLine text) mid now → trace_line text ≡ Some line → IsServedLine line
+    → (text : List ℕ) (line : Line) → IsLine text → WhereTold (TakesLine text) mid now → trace_line text ≡ Some line
     → Leads (LineTo (sizes_of start) line ran.moment) start new before written gathered_now → next ≡ n + 1
     → Ran (sizes_of start) left now next (StandsAndPrinted start new before written gathered_now)
-ran_more start old new left mid now before w written gathered gathered_now n next ran text line whole takes parses serves leads is = record {
+ran_more start old new left mid now before w written gathered gathered_now n next ran text line whole takes parses leads is = record {
   texts = ran.texts ++ text ∷ [];
   lines = ran.lines ++ line ∷ [];
   moment = leads.moment;
@@ -81,8 +102,7 @@ ran_more start old new left mid now before w written gathered gathered_now n nex
   counted = omega (arith, length-append ran.texts (text ∷ []), ran.counted, is);
   replays = all;
   drains = drains_end_reads (sizes_of start) (first_of start).unit (ran.lines ++ line ∷ []) begun leads.moment all
-      (subst (λ (s : Sizes). SoundSoFar s (first_of start).unit leads.moment.events) leads.standing.sizes leads.standing.stands.stands.sound.so_far);
-  serves = All-push IsServedLine ran.lines line ran.serves serves;
+      (sound_at start new leads.moment leads.standing);
   shows = (leads.standing, leads.printed);
 }
   where
@@ -100,7 +120,6 @@ ran_with s left now n facts others ran shows = record {
   counted = ran.counted;
   replays = ran.replays;
   drains = ran.drains;
-  serves = ran.serves;
   shows = shows;
 }
 
@@ -120,25 +139,27 @@ front_longer a b text words cut = record {
   appended = cut.appended;
 }
 
-module _ (s : Sizes) (good : Progress → Type 0) (left mid left_now before written : Option (List ℕ)) (limit n : ℕ) (facts : Progress
+module _ (s : Sizes) (good : Progress → Type 0) (counted : Progress → Counts → Type 0) (left mid left_now before written : Option (List ℕ)) (limit n : ℕ) (facts : Progress
     → Type 0) (ran : Ran s left mid n facts) (well : good ran.moment) where
   abbrev pub RunEnds : Status → Type 0
-  RunEnds status = RunIs s good left left_now before written limit status
+  RunEnds status = RunIs s good counted left left_now before written limit status
 
-  pub ends_cut : (words : List ℕ) → IsCutShort s mid limit n ran.moment ran.moment words → AppendsFront before written (print ran.moment.events ++ words) → RunEnds WriteFault
-  ends_cut words short cut = (mid, n, ran.moment, words, ran_with s left mid n facts (λ p. IsCutShort s mid limit n p ran.moment words) ran short, well, cut)
+  pub ends_cut : (words : List ℕ) → IsCutShort s counted mid limit n ran.moment ran.moment words → AppendsFront before written (print ran.moment.events ++ words) → RunEnds WriteFault
+  ends_cut words short cut = (mid, n, ran.moment, words, ran_with s left mid n facts (λ p. IsCutShort s counted mid limit n p ran.moment words) ran short, well, cut)
 
-  pub ends_done : {A B : Type 0} (result : Status) → n ≤ limit → WhereTold EndsAt mid left_now → ((result ≡ Done) × Appends before written (print ran.moment.events ++ []) × A)
-      ⊎ ((result ≡ WriteFault) × AppendsFront before written (print ran.moment.events ++ []) × B) → RunEnds result
-  ends_done result few ends (inl (is, all, _)) = subst RunEnds (sym is) (
+  pub ends_done : {A B : Type 0} (counts : Counts) (result : Status) → counted ran.moment counts → n ≤ limit → WhereTold EndsAt mid left_now
+      → ((result ≡ Done) × Appends before written (print ran.moment.events ++ counts_text counts) × A)
+      ⊎ ((result ≡ WriteFault) × AppendsFront before written (print ran.moment.events ++ counts_text counts) × B) → RunEnds result
+  ends_done counts result are few ends (inl (is, all, _)) = subst RunEnds (sym is) (
     mid,
     n,
     ran_with s left mid n facts (λ p. good p
-        × Appends before written (print p.events)) ran (well, wordless before written (print ran.moment.events) all),
+        × ((told : Counts) × counted p told × Appends before written (print p.events ++ counts_text told))) ran (well, (counts, are, all)),
     few,
     ends,
   )
-  ends_done result few ends (inr (is, cut, _)) = subst RunEnds (sym is) (ends_cut [] (inl (inl refl, few, λ _. refl, refl)) cut)
+  ends_done counts result are few ends (inr (is, cut, _)) =
+      subst RunEnds (sym is) (ends_cut (counts_text counts) (inr (inr (inr (refl, few, (left_now, ends), (counts, are, refl))))) cut)
 
   pub ends_unread : n ≤ limit → StopsWithinLine mid left_now → Appends before written (print ran.moment.events) → RunEnds ReadFault
   ends_unread few stops all = (mid, n, ran_with s left mid n facts (λ p. good p × Appends before written (print p.events)) ran (well, all), few, stops)
@@ -146,40 +167,41 @@ module _ (s : Sizes) (good : Progress → Type 0) (left mid left_now before writ
   pub ends_bad : {A B : Type 0} (result : Status) (number : ℕ) (behind : Option (List ℕ)) → number ≡ n + 1 → n < limit → IsBadNext mid behind → ReadsAhead behind left_now
       → ((result ≡ BadLine number) × Appends before written (print ran.moment.events ++ bad_line_text number) × A)
       ⊎ ((result ≡ WriteFault) × AppendsFront before written (print ran.moment.events ++ bad_line_text number) × B) → RunEnds result
-  ends_bad result number behind counted few bad ahead (inl (is, all, _)) =
-      subst RunEnds (sym is) (mid, behind, n, ran_with s left mid n facts (λ p. good p × Appends before written (print p.events ++ bad_line_text number)) ran (well, all), few, counted, bad, ahead)
-  ends_bad result number behind counted few bad ahead (inr (is, cut, _)) =
-      subst RunEnds (sym is) (ends_cut (bad_line_text number) (inr (inl (refl, few, ap bad_line_text counted, (behind, bad)))) cut)
+  ends_bad result number behind numbered few bad ahead (inl (is, all, _)) =
+      subst RunEnds (sym is) (mid, behind, n, ran_with s left mid n facts (λ p. good p × Appends before written (print p.events ++ bad_line_text number)) ran (well, all), few, numbered, bad, ahead)
+  ends_bad result number behind numbered few bad ahead (inr (is, cut, _)) =
+      subst RunEnds (sym is) (ends_cut (bad_line_text number) (inr (inl (refl, few, ap bad_line_text numbered, (behind, bad)))) cut)
 
-  pub ends_last : (result : Status) → n ≡ limit → LastIs before written (print ran.moment.events) mid left_now result → RunEnds result
-  ends_last Done all (written_all, ends) = (mid, n, ran_with s left mid n facts (λ p. good p × Appends before written (print p.events)) ran (well, written_all), omega arith, ends)
-  ends_last LongTrace all (written_all, more, ahead) = (
+  -- the last line that may be taken was taken, and the trace doesn't end there
+  pub ends_last : (result : Status) → n ≡ limit → (result ≡ Done → ⊥) → LastIs before written (print ran.moment.events) mid left_now result → RunEnds result
+  ends_last Done all other last = absurd (other refl)
+  ends_last LongTrace all other (written_all, more, ahead) = (
     mid,
     subst (λ (count : ℕ). Ran s left mid count (λ p. good p × Appends before written (print p.events ++ long_text))) all (ran_with s left mid n facts (λ p. good p
         × Appends before written (print p.events ++ long_text)) ran (well, written_all)),
     more,
     ahead,
   )
-  ends_last ReadFault all (written_all, stops) = (mid, n, ran_with s left mid n facts (λ p. good p × Appends before written (print p.events)) ran (well, written_all), omega arith, stops)
-  ends_last WriteFault all (words, last, cut) = ends_cut words (by_words last) cut
+  ends_last ReadFault all other (written_all, stops) = (mid, n, ran_with s left mid n facts (λ p. good p × Appends before written (print p.events)) ran (well, written_all), omega arith, stops)
+  ends_last WriteFault all other (words, last, cut) = ends_cut words (by_words last) cut
     where
-      by_words : (words ≡ []) ⊎ ((words ≡ long_text) × HasMore mid) → IsCutShort s mid limit n ran.moment ran.moment words
+      by_words : (words ≡ []) ⊎ ((words ≡ long_text) × HasMore mid) → IsCutShort s counted mid limit n ran.moment ran.moment words
       by_words (inl none) = inl (inl refl, omega arith, λ _. refl, none)
-      by_words (inr (are, more)) = inr (inr (refl, all, are, more))
-  ends_last (BadLine number) all none = absurd none
-  ends_last Usage all none = absurd none
-  ends_last Memory all none = absurd none
-  ends_last Geometry all none = absurd none
-  ends_last ChipFault all none = absurd none
-  ends_last (BadImage fault) all none = absurd none
-  ends_last (BadCapture offset fault) all none = absurd none
+      by_words (inr (are, more)) = inr (inr (inl (refl, all, are, more)))
+  ends_last (BadLine number) all other none = absurd none
+  ends_last Usage all other none = absurd none
+  ends_last Memory all other none = absurd none
+  ends_last Geometry all other none = absurd none
+  ends_last ChipFault all other none = absurd none
+  ends_last (BadImage fault) all other none = absurd none
+  ends_last (BadCapture offset fault) all other none = absurd none
 
 -- the sink failed at the next line
-pub ends_unwritten : (s : Sizes) (good : Progress → Type 0) (left mid left_now before written : Option (List ℕ)) (limit n : ℕ) (facts : Progress
+pub ends_unwritten : (s : Sizes) (good : Progress → Type 0) (counted : Progress → Counts → Type 0) (left mid left_now before written : Option (List ℕ)) (limit n : ℕ) (facts : Progress
     → Type 0) (ran : Ran s left mid n facts) (start new : DeviceState)
-    → n < limit → (cuts : Cuts (IsCutNext s mid ran.moment) start new before written) → good cuts.moment → RunIs s good left left_now before written limit WriteFault
-ends_unwritten s good left mid left_now before written limit n facts ran start new few cuts still =
-    (mid, n, cuts.moment, [], ran_with s left mid n facts (λ p. IsCutShort s mid limit n p cuts.moment []) ran (inl (cuts.reached, omega arith, λ all. absurd (omega arith), refl)), still, front_wordless before written (print cuts.moment.events) cuts.printed)
+    → n < limit → (cuts : Cuts (IsCutNext s mid ran.moment) start new before written) → good cuts.moment → RunIs s good counted left left_now before written limit WriteFault
+ends_unwritten s good counted left mid left_now before written limit n facts ran start new few cuts still =
+    (mid, n, cuts.moment, [], ran_with s left mid n facts (λ p. IsCutShort s counted mid limit n p cuts.moment []) ran (inl (cuts.reached, omega arith, λ all. absurd (omega arith), refl)), still, front_wordless before written (print cuts.moment.events) cuts.printed)
 
 -- what a last text leaves of the count of the sink's faults, and of the source's
 pub sink_ended : {A B : Type 0} (before now : ℕ) (result status : Status) → (now ≡ before → SinkEnds before now status) → ((result ≡ status) × A × (now ≡ before))

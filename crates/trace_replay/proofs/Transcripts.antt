@@ -1,16 +1,16 @@
 -- What a run promises of its events and of the chip, from where its device was left.
-use Rattle.std.proofs.Common.{◌≡◌, ℕ, ◌*◌, ◌-◌, ◌^◌, ◌≤◌, min, List, [], ◌∷◌, ◌++◌, Option, Some, None, refl, sym, ◌∙◌, ap, subst, arith, inl, inr, ◌⊎◌}
+use Rattle.std.proofs.Common.{◌≡◌, ℕ, ◌*◌, ◌-◌, ◌^◌, ◌<◌, ◌≤◌, min, List, [], ◌∷◌, ◌++◌, Option, Some, None, refl, sym, ◌∙◌, ap, subst, arith, inl, inr, ◌⊎◌}
 use Rattle.std.specs.Io.KnownBytes.{Appends}
 use Rattle.std.specs.Prelude.{Contains, Bool, true, false, not, ◌&&◌, ◌==◌}
+use Rattle.std.proofs.Math.Nat.{mul-le-mul}
 use Rattle.std.proofs.lemmas.Bool.Decides.{nat_tests}
 use Rattle.std.specs.Io.KnownBytes.{prepend_known}
 use Rattle.std.proofs.KnownBytes.{prepend_known-nil}
 use Rattle.trace_text.specs.Lines.{EndsAt, WhereTold}
 use Rattle.flash_pages.specs.declared.chip.Geometry.{Geometry}
-use Rattle.flash_pages.specs.Chip.{Page, erased_chip, erased_count}
+use Rattle.flash_pages.specs.Chip.{Page, erased_count}
+use Rattle.flash_pages.specs.Sound.{ChipOk}
 use Rattle.flash_pages.specs.Unit.{current, unit_of, next_seq}
-use Rattle.flash_pages.proofs.Units.{unit_of-erased}
-use Rattle.flash_pages.proofs.Programming.{erased_count-erased, next_seq-erased}
 use Rattle.flat_unit.specs.declared.event.Event.TheVariants.{Reset}
 use Rattle.flat_unit.specs.Causes.{FailuresAre}
 use Rattle.flat_unit.specs.Contents.{block_at, candidates}
@@ -19,98 +19,164 @@ use Rattle.flat_unit.specs.Entries.{Told}
 use Rattle.flat_unit.specs.Pages.{KeepsFresh}
 use Rattle.flat_unit.specs.Replays.{Progress}
 use Rattle.flat_unit.specs.Sizes.{Sizes}
-use Rattle.flat_unit.specs.Stands.{First, Stands}
+use Rattle.flat_unit.specs.Stands.{First, Stands, StandsForeign}
 use Rattle.flat_unit.proofs.standing.OneCall.{handed_back}
 use Rattle.hpb_device.specs.Limits.{limits_of}
 use Rattle.hpb_device.specs.Sizes.{sizes}
 use Rattle.hpb_device.specs.Standing.{first_of, kept_of, sizes_of}
+use Rattle.hpb_device.specs.declared.counts.Counts.{Counts}
+use Rattle.hpb_device.specs.Advance.{IsSameStore}
 use Rattle.hpb_device.specs.State.{DeviceState}
-use Rattle.trace_replay.specs.Moments.{Standing, pages_in}
+use Rattle.trace_replay.specs.Moments.{ForeignStanding, HasCollected, OwnStanding, Standing, pages_in}
 use Rattle.flash_store.specs.Index.{CanServe}
 use Rattle.region_state.specs.Shape.{IsWithinLimits}
 use Rattle.trace_replay.specs.Options.{cut_shape}
-use Rattle.trace_replay.specs.Run.{IsLeft, IsNamed, IsPlanned, ProgramIs, RunIs, geometry_text}
+use Rattle.trace_replay.specs.Run.{IsNamed, IsPlanned, ProgramIs, RunIs, geometry_text}
 use Rattle.trace_replay.specs.Writes.{AppendsFront}
 use Rattle.trace_replay.specs.Showing.{ShowIs, ShowProgramIs}
-use Rattle.trace_replay.specs.Transcript.{IsTranscript, none_written, sizes_on, zero_unit}
+use Rattle.trace_replay.specs.Transcript.{AreCounts, HasNoMore, IsChipOf, IsRefused, IsServed, IsTranscript, SendsUnready, has_page, sizes_on, unit_on}
 use Rattle.trace_replay.specs.Words.{IsReplay, named_chip, named_unit}
 use Rattle.region_state.specs.declared.shape.Shape.{Shape}
 use Rattle.trace_replay.specs.declared.status.Status.{Status}
 use Rattle.trace_replay.specs.declared.status.Status.TheVariants.{Done, BadLine, ReadFault, WriteFault, LongTrace, Usage, Memory, Geometry as BadGeometry, ChipFault, BadImage, BadCapture}
 use Rattle.trace_replay.proofs.Runs.{ran_with}
 
--- a device that was made over an erased chip
+-- a device that was made over a chip
 pub record IsFresh (device : DeviceState) (shape : Shape) (geometry : Geometry) (pages : List Page) (faults : ℕ) : Type 0 where
-  pub erased : pages ≡ erased_chip geometry
   pub shape_is : device.shape ≡ shape
   pub luns : device.store.luns ≡ 1
   pub units : device.store.units ≡ shape.units
   pub pages_are : device.store.pages ≡ pages
   pub geometry_is : device.store.geometry ≡ geometry
   pub faults_are : device.store.faults ≡ faults
+  pub some_block : 1 ≤ geometry.blocks
+  pub some_page : 1 ≤ geometry.pages
 
-pub fresh_sizes : (device : DeviceState) (shape : Shape) (geometry : Geometry) (pages : List Page) (faults : ℕ) → IsFresh device shape geometry pages faults → sizes_of device ≡ sizes_on shape geometry
-fresh_sizes device shape geometry pages faults fresh = λ i. sizes (fresh.luns i) (limits_of (fresh.shape_is i)) (fresh.geometry_is i)
+-- what is said of a device's chip
+record OnChip : Type 0 where
+  geometry : Geometry
+  luns : ℕ
+  units : ℕ
+  pages : List Page
 
--- a unit of zeros over an erased chip
-abbrev pub zero_first : Shape → Geometry → First
-zero_first shape geometry = record { unit = zero_unit shape; next = 0; free = geometry.blocks * geometry.pages }
+abbrev chip_of : DeviceState → OnChip
+chip_of device = record { geometry = device.store.geometry; luns = device.store.luns; units = device.store.units; pages = device.store.pages }
 
-pub fresh_first : (device : DeviceState) (shape : Shape) (geometry : Geometry) (pages : List Page) (faults : ℕ) → IsFresh device shape geometry pages faults
-    → first_of device ≡ zero_first shape geometry
-fresh_first device shape geometry pages faults fresh =
-    let chip = fresh.pages_are ∙ fresh.erased in
-    let on_chip : first_of device ≡ record { unit = unit_of 1 shape.units (erased_chip geometry); next = next_seq (erased_chip geometry); free = erased_count (erased_chip geometry) } =
-    λ i. record { unit = unit_of (fresh.luns i) (fresh.units i) (chip i); next = next_seq (chip i); free = erased_count (chip i) } in
-    let count = geometry.blocks * geometry.pages in
-    on_chip ∙ (λ i. record { unit = unit_of-erased 1 shape.units count i; next = next_seq-erased count i; free = erased_count-erased count i })
+abbrev named_on : Shape → Geometry → List Page → OnChip
+named_on shape geometry pages = record { geometry = geometry; luns = 1; units = shape.units; pages = pages }
 
--- where a device is left is a transcript
-standing_transcript : (start device : DeviceState) (shape : Shape) (geometry : Geometry) (pages : List Page) (faults : ℕ) (p : Progress) → IsFresh start shape geometry pages faults
-    → Standing start device p
-    → IsTranscript shape geometry faults device.store.faults device.store.pages p.events
-standing_transcript start device shape geometry pages faults p fresh at =
-    let sized : sizes_of device ≡ sizes_on shape geometry = at.sizes ∙ fresh_sizes start shape geometry pages faults fresh in
-    let kept = kept_of at.stands.erases device at.stands.tasks in
-    let here : Stands (sizes_on shape geometry) (zero_first shape geometry) kept p.events =
-    subst (λ (first : First). Stands (sizes_on shape geometry) first kept p.events) (fresh_first start shape geometry pages faults fresh)
-    (subst (λ (s : Sizes). Stands s (first_of start) kept p.events) sized at.stands.stands) in
-    record {
-      plain = at.plain;
-      sound = here.sound;
-      caused = here.caused;
-      failures = subst (λ (n : ℕ). FailuresAre n device.store.faults p.events) fresh.faults_are at.faults;
-      allowed = λ place inside.
-          let luns : device.store.luns ≡ 1 = at.same.luns ∙ fresh.luns in
-          let units : device.store.units ≡ shape.units = at.same.units ∙ fresh.units in
-          subst (λ (l : ℕ). Contains (candidates (sizes_on shape geometry) (zero_unit shape) (p.events ▹ Reset) place) (block_at (sizes_on shape geometry) (unit_of l shape.units device.store.pages) place)) luns
-          (subst (λ (u : ℕ). Contains (candidates (sizes_on shape geometry) (zero_unit shape) (p.events ▹ Reset) place) (block_at (sizes_on shape geometry) (unit_of device.store.luns u device.store.pages) place)) units
-          (handed_back (sizes_on shape geometry) (zero_first shape geometry) kept p.events here place inside));
-      told = subst (λ (n : ℕ). Told (sizes_on shape geometry) n none_written p.events) (ap (λ (g : Geometry). g.blocks * g.pages) fresh.geometry_is)
-          (subst (λ (s : Sizes). Told s (pages_in start) none_written p.events) sized at.listings.told);
-      entries = subst (λ (s : Sizes). KeepsFresh s (current device.store.pages) p.events) sized at.entries.fresh;
-    }
+module _ (start device : DeviceState) (shape : Shape) (geometry : Geometry) (pages : List Page) (faults : ℕ) (fresh : IsFresh start shape geometry pages faults) where
+  pub fresh_sizes : sizes_of start ≡ sizes_on shape geometry
+  fresh_sizes = λ i. sizes (fresh.luns i) (limits_of (fresh.shape_is i)) (fresh.geometry_is i)
+
+  start_chip : chip_of start ≡ named_on shape geometry pages
+  start_chip = λ i. record { geometry = fresh.geometry_is i; luns = fresh.luns i; units = fresh.units i; pages = fresh.pages_are i }
+
+  -- the first moment, by the chip that was handed in
+  abbrev first_on : First
+  first_on = record { unit = unit_on shape pages; next = next_seq pages; free = erased_count pages }
+
+  fresh_first : first_of start ≡ first_on
+  fresh_first = λ i. record { unit = unit_of (fresh.luns i) (fresh.units i) (fresh.pages_are i); next = next_seq (fresh.pages_are i); free = erased_count (fresh.pages_are i) }
+
+  -- a chip in the device's place
+  device_chip : IsSameStore start.store device.store → chip_of device ≡ named_on shape geometry device.store.pages
+  device_chip same = λ i. record { geometry = (same.geometry ∙ fresh.geometry_is) i; luns = (same.luns ∙ fresh.luns) i; units = (same.units ∙ fresh.units) i; pages = device.store.pages }
+
+  -- where a device over a sound chip is left
+  served : (p : Progress) → Standing start device p → OwnStanding start device p → IsServed shape geometry pages device.store.pages p
+  served p at own =
+      let sized : sizes_of device ≡ sizes_on shape geometry = at.sizes ∙ fresh_sizes in
+      let kept = kept_of own.stands.erases device own.stands.tasks in
+      let here : Stands (sizes_on shape geometry) first_on kept p.events =
+      subst (λ (first : First). Stands (sizes_on shape geometry) first kept p.events) fresh_first
+      (subst (λ (s : Sizes). Stands s (first_of start) kept p.events) sized own.stands.stands) in
+      let chip = device_chip at.same in
+      record {
+        sound = here.sound;
+        caused = here.caused;
+        leaves_sound = subst (λ (c : OnChip). ChipOk c.geometry c.luns c.units c.pages) chip own.stands.sound;
+        allowed = λ place inside.
+            subst (λ (c : OnChip). Contains (candidates (sizes_on shape geometry) (unit_on shape pages) (p.events ▹ Reset) place) (block_at (sizes_on shape geometry) (unit_of c.luns c.units c.pages) place)) chip
+            (handed_back (sizes_on shape geometry) first_on kept p.events here place inside);
+        told = subst (λ (had : List Page). Told (sizes_on shape geometry) (geometry.blocks * geometry.pages) (has_page had) p.events) fresh.pages_are
+            (subst (λ (n : ℕ). Told (sizes_on shape geometry) n (has_page start.store.pages) p.events) (ap (λ (g : Geometry). g.blocks * g.pages) fresh.geometry_is)
+            (subst (λ (s : Sizes). Told s (pages_in start) (has_page start.store.pages) p.events) sized own.listings.told));
+        entries = subst (λ (s : Sizes). KeepsFresh s (current device.store.pages) p.events) sized own.entries.fresh;
+        collected = λ served enough.
+            let collected = at.collected (at.ready served) in
+            let same = ap (λ (c : OnChip). 2 * c.geometry.pages * (c.geometry.blocks * c.geometry.pages)) chip in
+            subst (λ (c : OnChip). HasNoMore c.geometry c.pages) chip (no_more at.some_page p.collected (collected (some_left enough)) same enough);
+      }
+    where
+      some_left : 2 * geometry.pages * (geometry.blocks * geometry.pages) ≤ p.collected → 0 < p.collected
+      some_left enough =
+          let all : 1 * 1 ≤ geometry.blocks * geometry.pages = mul-le-mul {n₁ = 1} {m₁ = 1} {n₂ = geometry.blocks} {m₂ = geometry.pages} fresh.some_block fresh.some_page in
+          let twice : 2 * 1 ≤ 2 * geometry.pages = mul-le-mul {n₁ = 2} {m₁ = 1} {n₂ = 2} {m₂ = geometry.pages} (omega arith) fresh.some_page in
+          let some : 2 * (1 * 1) ≤ 2 * geometry.pages * (geometry.blocks * geometry.pages) =
+          mul-le-mul {n₁ = 2} {m₁ = 1 * 1} {n₂ = 2 * geometry.pages} {m₂ = geometry.blocks * geometry.pages} (omega (arith, twice)) all in
+          omega (arith, some, enough)
+
+      no_more : 1 ≤ start.store.geometry.pages → (count : ℕ) → HasCollected device count
+          → 2 * device.store.geometry.pages * pages_in device ≡ 2 * geometry.pages * (geometry.blocks * geometry.pages) → 2 * geometry.pages * (geometry.blocks * geometry.pages) ≤ count
+          → HasNoMore device.store.geometry device.store.pages
+      no_more some count so_far same enough = so_far.over (elim so_far.fewer [ inl few ↦ omega (arith, few, same, enough) | inr none ↦ none ])
+
+  -- where a device over any other chip is left
+  refused : (p : Progress) → Standing start device p → ForeignStanding start device p → IsRefused shape geometry pages device.store.pages p
+  refused p at foreign =
+      let sized : sizes_of device ≡ sizes_on shape geometry = at.sizes ∙ fresh_sizes in
+      let here : (first : First) → StandsForeign (sizes_on shape geometry) first (kept_of 0 device (foreign.stands first).tasks) p.events =
+      λ first. subst (λ (s : Sizes). StandsForeign s first (kept_of 0 device (foreign.stands first).tasks) p.events) sized (foreign.stands first).stands in
+      record {
+        sound = λ unit. (here (record { unit = unit; next = 0; free = 0 })).sound;
+        caused = (here (record { unit = []; next = next_seq pages; free = 0 })).caused;
+        unready = subst (λ (s : Sizes). SendsUnready s p.events) fresh_sizes foreign.unready;
+        stays = (foreign.stands (first_of start)).stays ∙ fresh.pages_are;
+      }
+
+  -- where a device is left is a transcript
+  standing_transcript : (p : Progress) → Standing start device p → IsTranscript shape geometry faults device.store.faults pages device.store.pages p
+  standing_transcript p at = record {
+    plain = at.plain;
+    failures = subst (λ (n : ℕ). FailuresAre n device.store.faults p.events) fresh.faults_are at.faults;
+    own = λ sound. elim at.chip [
+      | inl own ↦ served p at own
+      | inr foreign ↦ absurd (was_unsound foreign sound)
+    ];
+    foreign = λ unsound. elim at.chip [
+      | inl own ↦ absurd (unsound (subst (λ (c : OnChip). ChipOk c.geometry c.luns c.units c.pages) start_chip own.was))
+      | inr foreign ↦ refused p at foreign
+    ];
+  }
+    where
+      was_unsound : ForeignStanding start device p → IsChipOf shape geometry pages → ⊥
+      was_unsound foreign sound =
+          let here = foreign.stands (first_of start) in
+          let back : named_on shape geometry pages ≡ chip_of device =
+          sym (device_chip at.same ∙ ap (λ (c : List Page). named_on shape geometry c) (here.stays ∙ fresh.pages_are)) in
+          here.unsound (subst (λ (c : OnChip). ChipOk c.geometry c.luns c.units c.pages) back sound)
 
 pub left_transcript : (start now : DeviceState) (shape : Shape) (geometry : Geometry) (pages back : List Page) (faults faults_back : ℕ) (p : Progress) → IsFresh start shape geometry pages faults
-    → back ≡ now.store.pages → faults_back ≡ now.store.faults → IsLeft start now p
-    → IsTranscript shape geometry faults faults_back back p.events
-left_transcript start now shape geometry pages back faults faults_back p fresh is_back is_faults (device, at, same) =
-    rw (is_back, is_faults, same) (standing_transcript start device shape geometry pages faults p fresh at)
+    → back ≡ now.store.pages → faults_back ≡ now.store.faults → Standing start now p
+    → IsTranscript shape geometry faults faults_back pages back p
+left_transcript start now shape geometry pages back faults faults_back p fresh is_back is_faults at =
+    rw (is_back, is_faults) (standing_transcript start now shape geometry pages faults fresh p at)
 
 -- what is said of the events may be weakened
-pub run_shows : (s : Sizes) (good better : Progress → Type 0) (left left_now w w_now : Option (List ℕ)) (limit : ℕ) (status : Status) → ((p : Progress) → good p → better p)
-    → RunIs s good left left_now w w_now limit status → RunIs s better left left_now w w_now limit status
-run_shows s good better left left_now w w_now limit Done leads (mid, n, ran, few, ends) = (mid, n, ran_with s left mid n _ _ ran (leads _ ran.shows.0, ran.shows.1), few, ends)
-run_shows s good better left left_now w w_now limit (BadLine number) leads (mid, behind, n, ran, few, is, bad, ahead) = (mid, behind, n, ran_with s left mid n _ _ ran (leads _ ran.shows.0, ran.shows.1), few, is, bad, ahead)
-run_shows s good better left left_now w w_now limit ReadFault leads (mid, n, ran, few, stops) = (mid, n, ran_with s left mid n _ _ ran (leads _ ran.shows.0, ran.shows.1), few, stops)
-run_shows s good better left left_now w w_now limit LongTrace leads (mid, ran, more, ahead) = (mid, ran_with s left mid limit _ _ ran (leads _ ran.shows.0, ran.shows.1), more, ahead)
-run_shows s good better left left_now w w_now limit WriteFault leads (mid, n, last, words, ran, well, cut) = (mid, n, last, words, ran, leads last well, cut)
-run_shows s good better left left_now w w_now limit Usage leads none = absurd none
-run_shows s good better left left_now w w_now limit Memory leads none = absurd none
-run_shows s good better left left_now w w_now limit BadGeometry leads none = absurd none
-run_shows s good better left left_now w w_now limit ChipFault leads none = absurd none
-run_shows s good better left left_now w w_now limit (BadImage fault) leads none = absurd none
-run_shows s good better left left_now w w_now limit (BadCapture offset fault) leads none = absurd none
+pub run_shows : (s : Sizes) (good better : Progress → Type 0) (counted : Progress → Counts → Type 0) (left left_now w w_now : Option (List ℕ)) (limit : ℕ) (status : Status) → ((p : Progress) → good p → better p)
+    → RunIs s good counted left left_now w w_now limit status → RunIs s better counted left left_now w w_now limit status
+run_shows s good better counted left left_now w w_now limit Done leads (mid, n, ran, few, ends) = (mid, n, ran_with s left mid n _ _ ran (leads _ ran.shows.0, ran.shows.1), few, ends)
+run_shows s good better counted left left_now w w_now limit (BadLine number) leads (mid, behind, n, ran, few, is, bad, ahead) = (mid, behind, n, ran_with s left mid n _ _ ran (leads _ ran.shows.0, ran.shows.1), few, is, bad, ahead)
+run_shows s good better counted left left_now w w_now limit ReadFault leads (mid, n, ran, few, stops) = (mid, n, ran_with s left mid n _ _ ran (leads _ ran.shows.0, ran.shows.1), few, stops)
+run_shows s good better counted left left_now w w_now limit LongTrace leads (mid, ran, more, ahead) = (mid, ran_with s left mid limit _ _ ran (leads _ ran.shows.0, ran.shows.1), more, ahead)
+run_shows s good better counted left left_now w w_now limit WriteFault leads (mid, n, last, words, ran, well, cut) = (mid, n, last, words, ran, leads last well, cut)
+run_shows s good better counted left left_now w w_now limit Usage leads none = absurd none
+run_shows s good better counted left left_now w w_now limit Memory leads none = absurd none
+run_shows s good better counted left left_now w w_now limit BadGeometry leads none = absurd none
+run_shows s good better counted left left_now w w_now limit ChipFault leads none = absurd none
+run_shows s good better counted left left_now w w_now limit (BadImage fault) leads none = absurd none
+run_shows s good better counted left left_now w w_now limit (BadCapture offset fault) leads none = absurd none
 
 -- a text that is at its end has nothing left in its source
 pub ends_in_source : (mid : Option (List ℕ)) (held : List ℕ) (left : Option (List ℕ)) → WhereTold EndsAt mid (prepend_known held left) → WhereTold EndsAt mid left
@@ -123,33 +189,34 @@ ends_in_source (Some text) (x ∷ held) (Some rest) ends = absurd (is_none ends.
     is_none is = cc
 
 -- a replay that ended is what the program ends with
-program_of : (words : List (List ℕ)) (geometry : Geometry) (good : Progress → Type 0) (same : Type 0) (left left_now w w_now : Option (List ℕ)) (limit : ℕ) (status : Status)
-    → IsPlanned words geometry → RunIs (sizes_on (named_unit words) geometry) good left left_now w w_now limit status → ProgramIs words geometry good same left left_now w w_now limit status
-program_of words geometry good same left left_now w w_now limit Done planned run = (planned, run)
-program_of words geometry good same left left_now w w_now limit (BadLine number) planned run = (planned, run)
-program_of words geometry good same left left_now w w_now limit ReadFault planned run = (planned, run)
-program_of words geometry good same left left_now w w_now limit LongTrace planned run = (planned, run)
-program_of words geometry good same left left_now w w_now limit WriteFault planned run = inr (planned, run)
-program_of words geometry good same left left_now w w_now limit Usage planned run = absurd run
-program_of words geometry good same left left_now w w_now limit Memory planned run = absurd run
-program_of words geometry good same left left_now w w_now limit BadGeometry planned run = absurd run
-program_of words geometry good same left left_now w w_now limit ChipFault planned run = absurd run
-program_of words geometry good same left left_now w w_now limit (BadImage fault) planned run = absurd run
-program_of words geometry good same left left_now w w_now limit (BadCapture offset fault) planned run = absurd run
+program_of : (words : List (List ℕ)) (geometry : Geometry) (good : Progress → Type 0) (counted : Progress → Counts → Type 0) (same : Type 0) (left left_now w w_now : Option (List ℕ)) (limit : ℕ) (status : Status)
+    → IsPlanned words geometry → RunIs (sizes_on (named_unit words) geometry) good counted left left_now w w_now limit status → ProgramIs words geometry good counted same left left_now w w_now limit status
+program_of words geometry good counted same left left_now w w_now limit Done planned run = (planned, run)
+program_of words geometry good counted same left left_now w w_now limit (BadLine number) planned run = (planned, run)
+program_of words geometry good counted same left left_now w w_now limit ReadFault planned run = (planned, run)
+program_of words geometry good counted same left left_now w w_now limit LongTrace planned run = (planned, run)
+program_of words geometry good counted same left left_now w w_now limit WriteFault planned run = inr (planned, run)
+program_of words geometry good counted same left left_now w w_now limit Usage planned run = absurd run
+program_of words geometry good counted same left left_now w w_now limit Memory planned run = absurd run
+program_of words geometry good counted same left left_now w w_now limit BadGeometry planned run = absurd run
+program_of words geometry good counted same left left_now w w_now limit ChipFault planned run = absurd run
+program_of words geometry good counted same left left_now w w_now limit (BadImage fault) planned run = absurd run
+program_of words geometry good counted same left left_now w w_now limit (BadCapture offset fault) planned run = absurd run
 
 -- the promise of a run, in terms of the chip
 pub run_of_chip : (words : List (List ℕ)) (geometry : Geometry) (start now : DeviceState) (pages back : List Page) (faults faults_back : ℕ) (same : Type 0) (left left_now w w_now : Option (List ℕ)) (held : List ℕ) (limit : ℕ) (status : Status)
     → IsPlanned words geometry → IsFresh start (named_unit words) geometry pages faults → held ≡ [] → back ≡ now.store.pages → faults_back ≡ now.store.faults
-    → RunIs (sizes_of start) (IsLeft start now) (prepend_known held left) left_now w w_now limit status
-    → ProgramIs words geometry (λ p. IsTranscript (named_unit words) geometry faults faults_back back p.events) same left left_now w w_now limit status
+    → RunIs (sizes_of start) (Standing start now) AreCounts (prepend_known held left) left_now w w_now limit status
+    → ProgramIs words geometry (IsTranscript (named_unit words) geometry faults faults_back pages back) AreCounts same left left_now w w_now limit status
 run_of_chip words geometry start now pages back faults faults_back same left left_now w w_now held limit status planned fresh none is_back is_faults run =
-    let good : Progress → Type 0 = λ p. IsTranscript (named_unit words) geometry faults faults_back back p.events in
+    let good : Progress → Type 0 = IsTranscript (named_unit words) geometry faults faults_back pages back in
     let from : prepend_known held left ≡ left = ap (λ (l : List ℕ). prepend_known l left) none ∙ prepend_known-nil left in
-    let run1 : RunIs (sizes_on (named_unit words) geometry) (IsLeft start now) left left_now w w_now limit status =
-    subst (λ (s : Sizes). RunIs s (IsLeft start now) left left_now w w_now limit status) (fresh_sizes start (named_unit words) geometry pages faults fresh)
-    (subst (λ (l : Option (List ℕ)). RunIs (sizes_of start) (IsLeft start now) l left_now w w_now limit status) from run) in
-    program_of words geometry good same left left_now w w_now limit status planned
-    (run_shows (sizes_on (named_unit words) geometry) (IsLeft start now) good left left_now w w_now limit status (λ p at. left_transcript start now (named_unit words) geometry pages back faults faults_back p fresh is_back is_faults at) run1)
+    let run1 : RunIs (sizes_on (named_unit words) geometry) (Standing start now) AreCounts left left_now w w_now limit status =
+    subst (λ (s : Sizes). RunIs s (Standing start now) AreCounts left left_now w w_now limit status) (fresh_sizes start now (named_unit words) geometry pages faults fresh)
+    (subst (λ (l : Option (List ℕ)). RunIs (sizes_of start) (Standing start now) AreCounts l left_now w w_now limit status) from run) in
+    program_of words geometry good AreCounts same left left_now w w_now limit status planned
+    (run_shows (sizes_on (named_unit words) geometry) (Standing start now) good AreCounts left left_now w w_now limit status
+    (λ p at. left_transcript start now (named_unit words) geometry pages back faults faults_back p fresh is_back is_faults at) run1)
 
 -- what was shown of a text that comes from a source alone
 pub show_from_source : (left left_now w w_now : Option (List ℕ)) (held : List ℕ) (limit : ℕ) (status : Status) → held ≡ []
@@ -208,10 +275,10 @@ other_chip a b differs test some same =
 
 -- a run that is refused
 
-pub refused_geometry : {A B : Type 0} (words : List (List ℕ)) (geometry : Geometry) (good : Progress → Type 0) (same : Type 0) (left left_now w w_now : Option (List ℕ)) (limit : ℕ) (status : Status)
+pub refused_geometry : {A B : Type 0} (words : List (List ℕ)) (geometry : Geometry) (good : Progress → Type 0) (counted : Progress → Counts → Type 0) (same : Type 0) (left left_now w w_now : Option (List ℕ)) (limit : ℕ) (status : Status)
     → IsReplay words → ¬ IsNamed words geometry → same → ((status ≡ BadGeometry) × Appends w w_now geometry_text × A) ⊎ ((status ≡ WriteFault) × AppendsFront w w_now geometry_text × B)
-    → ProgramIs words geometry good same left left_now w w_now limit status
-refused_geometry words geometry good same left left_now w w_now limit status replay differs kept (inl (is, all, _)) =
-    subst (λ (s : Status). ProgramIs words geometry good same left left_now w w_now limit s) (sym is) (replay, differs, kept, all)
-refused_geometry words geometry good same left left_now w w_now limit status replay differs kept (inr (is, cut, _)) =
-    subst (λ (s : Status). ProgramIs words geometry good same left left_now w w_now limit s) (sym is) (inl (geometry_text, inr (replay, differs, refl), kept, cut))
+    → ProgramIs words geometry good counted same left left_now w w_now limit status
+refused_geometry words geometry good counted same left left_now w w_now limit status replay differs kept (inl (is, all, _)) =
+    subst (λ (s : Status). ProgramIs words geometry good counted same left left_now w w_now limit s) (sym is) (replay, differs, kept, all)
+refused_geometry words geometry good counted same left left_now w w_now limit status replay differs kept (inr (is, cut, _)) =
+    subst (λ (s : Status). ProgramIs words geometry good counted same left left_now w w_now limit s) (sym is) (inl (geometry_text, inr (replay, differs, refl), kept, cut))

@@ -3,15 +3,15 @@ use Rattle.std.proofs.Common.{◌≡◌, ℕ, length, take, List, ◌++◌, Opti
 use Rattle.std.proofs.lemmas.List.{append_assoc}
 use Rattle.std.proofs.Math.Seq.{take-append_seam}
 use Rattle.std.specs.Io.KnownBytes.{Keeps, prepend_known}
-use Rattle.flat_unit.specs.Replays.{Progress}
+use Rattle.flat_unit.specs.Replays.{Progress, LineTo}
 use Rattle.flat_unit.specs.Trace.{Line}
+use Rattle.hpb_device.specs.Standing.{sizes_of}
 use Rattle.hpb_device.specs.State.{DeviceState}
 use Rattle.trace_text.specs.Grammar.{trace_line}
 use Rattle.trace_text.specs.Lines.{IsLine, TakesLine, BeginsLong, WhereTold}
-use Rattle.trace_replay.specs.Moments.{LineIs}
+use Rattle.trace_replay.specs.Moments.{Leads, Cuts, CutLineTo}
 use Rattle.trace_replay.specs.Run.{IsLong, TurnAt}
-use Rattle.trace_replay.specs.declared.replay.Turn.{Turn}
-use Rattle.trace_replay.specs.declared.replay.Turn.TheVariants.{Served, Ended, Bad, Unread, Unwritten}
+use Rattle.trace_replay.specs.declared.replay.Turn.TheVariants.{Served, Unwritten}
 
 -- a text whose begin is held is too long where those bytes are
 long_before : (held left : List ℕ) → BeginsLong held → BeginsLong (held ++ left)
@@ -23,20 +23,17 @@ long_text_of None held left same long = tt
 long_text_of (Some xs) held None same long = absurd same
 long_text_of (Some xs) held (Some rest) same long = subst BeginsLong same (long_before held rest long)
 
--- a line that was taken and parsed is served, refused or cut
-pub turn_served : (start : DeviceState) (before : Option (List ℕ)) (p : Progress) (old new : DeviceState) (left left_now written : Option (List ℕ)) (gathered : List ℕ) (text : List ℕ) (line : Line) (turn : Turn)
-    → IsLine text → WhereTold (TakesLine text) left left_now → trace_line text ≡ Some line → LineIs line start old new p before written gathered turn
-    → TurnAt start before p old new left left_now written gathered turn
-turn_served start before p old new left left_now written gathered text line Served one taken parsed is = (text, line, one, taken, parsed, is.0, is.1)
-turn_served start before p old new left left_now written gathered text line Bad one taken parsed is = (inr (text, taken, inr (line, parsed, is.refused)), is.store, is.printed)
-turn_served start before p old new left left_now written gathered text line Unwritten one taken parsed is = record {
-  moment = is.moment;
-  reached = inr (text, left_now, line, taken, parsed, is.reached);
-  standing = is.standing;
-  printed = is.printed;
-}
-turn_served start before p old new left left_now written gathered text line Ended one taken parsed is = absurd is
-turn_served start before p old new left left_now written gathered text line Unread one taken parsed is = absurd is
+-- a line that was taken and parsed is served or cut
+pub turn_served : (start : DeviceState) (before : Option (List ℕ)) (p : Progress) (old new : DeviceState) (left left_now written : Option (List ℕ)) (gathered : List ℕ) (text : List ℕ) (line : Line)
+    → IsLine text → WhereTold (TakesLine text) left left_now → trace_line text ≡ Some line → Leads (LineTo (sizes_of start) line p) start new before written gathered
+    → TurnAt start before p old new left left_now written gathered Served
+turn_served start before p old new left left_now written gathered text line one taken parsed leads = (text, line, one, taken, parsed, leads)
+
+pub turn_cut : (start : DeviceState) (before : Option (List ℕ)) (p : Progress) (old new : DeviceState) (left left_now written : Option (List ℕ)) (gathered : List ℕ) (text : List ℕ) (line : Line)
+    → WhereTold (TakesLine text) left left_now → trace_line text ≡ Some line → Cuts (CutLineTo (sizes_of start) line p) start new before written
+    → TurnAt start before p old new left left_now written gathered Unwritten
+turn_cut start before p old new left left_now written gathered text line taken parsed cuts =
+    record { moment = cuts.moment; reached = inr (text, left_now, line, taken, parsed, cuts.reached); standing = cuts.standing; printed = cuts.printed }
 
 -- a room that was written whole
 pub whole_room : (room rest : List ℕ) (count : ℕ) → length room ≡ count → take count (room ++ rest) ≡ room

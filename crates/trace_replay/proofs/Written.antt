@@ -26,6 +26,10 @@ appends_kept (Some x) (Some y) (Some z) xs first same = same ∙ first
 pub nothing_yet : (known : Option (List ℕ)) (text : List ℕ) → HasWrittenUpTo known known text text
 nothing_yet known text = record { front = []; parts = refl; appended = appends_nothing known }
 
+-- all of a text was written
+pub all_written : (a b : Option (List ℕ)) (text : List ℕ) → Appends a b text → HasWrittenUpTo a b text []
+all_written a b text all = record { front = text; parts = append-nil text; appended = all }
+
 pub up_to_more : (a b c : Option (List ℕ)) (text rest : List ℕ) (n : ℕ) → HasWrittenUpTo a b text rest → Appends b c (take n rest) → HasWrittenUpTo a c text (drop n rest)
 up_to_more a b c text rest n so_far more = record {
   front = so_far.front ++ take n rest;

@@ -1,23 +1,15 @@
 -- The status of a run as a function of its text alone.
-use Rattle.std.specs.Prelude.{ℕ, ◌+◌, Bool, true, false, ◌&&◌, ◌==◌, nat_le, nat_lt, is_some, List, length, Option, Some, None, if◌then◌else◌}
+use Rattle.std.specs.Prelude.{ℕ, ◌+◌, Bool, ◌&&◌, ◌==◌, nat_le, nat_lt, is_some, List, length, if◌then◌else◌}
 use Rattle.std.specs.List.{prefix_len}
-use Rattle.flat_unit.specs.Trace.{Line, Collect, ResetLine}
 use Rattle.trace_text.specs.Grammar.{trace_line}
 use Rattle.trace_text.specs.Lines.{lines_of}
 use Rattle.trace_text.specs.Shown.{shown_line}
 use Rattle.trace_replay.specs.declared.status.Status.{Status}
 use Rattle.trace_replay.specs.declared.status.Status.TheVariants.{Done, BadLine, LongTrace}
 
--- a line that is served: all but collection and resets
-abbrev pub is_served : Option Line → Bool
-is_served (Some (Collect n)) = false
-is_served (Some ResetLine) = false
-is_served (Some _) = true
-is_served None = false
-
--- a line of a trace: at most 131,200 bytes, in the grammar, and served
+-- a line of a trace: at most 131,200 bytes, and in the grammar
 abbrev pub is_trace_line : List ℕ → Bool
-is_trace_line line = nat_le (length line) 131200 && is_served (trace_line line)
+is_trace_line line = nat_le (length line) 131200 && is_some (trace_line line)
 
 -- a line that `show` shows: at most 131,200 bytes, and its UPIU is hex
 abbrev pub is_shown_line : List ℕ → Bool

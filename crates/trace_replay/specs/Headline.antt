@@ -12,7 +12,8 @@ use Rattle.std.specs.Io.KnownBytes.{Appends}
 use Rattle.trace_text.specs.Grammar.{trace_line}
 use Rattle.trace_text.specs.Lines.{EndsAt, WhereTold}
 use Rattle.trace_replay.specs.ByText.{status_of}
-use Rattle.trace_replay.specs.Run.{TakesLines, bad_line_text, long_text}
+use Rattle.hpb_device.specs.declared.counts.Counts.{Counts}
+use Rattle.trace_replay.specs.Run.{TakesLines, bad_line_text, counts_text, long_text}
 use Rattle.trace_replay.specs.Transcript.{IsPlain}
 use Rattle.trace_replay.specs.Writes.{AppendsFront}
 use Rattle.trace_replay.specs.declared.status.Status.{Status}
@@ -23,9 +24,11 @@ abbrev pub IsWritten : Status → (old new : Option (List ℕ)) → (text : List
 IsWritten WriteFault old new text = AppendsFront old new text
 IsWritten _ old new text = Appends old new text
 
--- the last words of a run: none, the number of a line, or that the text is long
+-- the last words of a run: none, the number of a line, that the text is long, or the counts
 abbrev pub AreLastWords : List ℕ → Type 0
-AreLastWords words = (words ≡ []) ⊎ ((number : ℕ) × (words ≡ bad_line_text number)) ⊎ (words ≡ long_text)
+AreLastWords words =
+    (words ≡ []) ⊎ ((number : ℕ) × (words ≡ bad_line_text number)) ⊎ (words ≡ long_text)
+    ⊎ ((counts : Counts) × (words ≡ counts_text counts))
 
 -- The text of plain events with this fact was written, and then the last words. No line of an event begins as those do, so
 -- the text tells which events they are.
@@ -37,7 +40,7 @@ pub record Tells (status : Status) (old new : Option (List ℕ)) (fact : History
   pub holds : fact events
   pub written : IsWritten status old new (print events ++ words)
 
--- all lines of a text were taken, and after each drain no read goes on; the text of the events was written
+-- all lines of a text were taken, and after each drain no read goes on; the text of the events was written, and the counts
 pub record DrainsAll (s : Sizes) (left left_now written written_now : Option (List ℕ)) : Type 0 where
   pub texts : List (List ℕ)
   pub lines : List Line
@@ -47,7 +50,8 @@ pub record DrainsAll (s : Sizes) (left left_now written written_now : Option (Li
   pub ends : WhereTold EndsAt mid left_now
   pub parsed : map trace_line texts ≡ map (λ (line : Line). Some line) lines
   pub drains : DrainsReads s lines begun moment
-  pub printed : Appends written written_now (print moment.events)
+  pub counts : Counts
+  pub printed : Appends written written_now (print moment.events ++ counts_text counts)
 
 -- where a text is told and no call of the source or the sink failed, the status is that of the text, or memory was wanted
 abbrev pub EndsByText : (good : List ℕ → Bool) → (left : Option (List ℕ)) → (source source_now sink sink_now : ℕ)

@@ -8,10 +8,12 @@ use Rattle.flat_unit.specs.Replays.{Progress, begun, LineTo, Replays}
 use Rattle.flat_unit.specs.Sizes.{Sizes}
 use Rattle.flat_unit.specs.Trace.{Line}
 use Rattle.hpb_device.specs.Standing.{sizes_of}
+use Rattle.hpb_device.specs.declared.counts.Counts.{Counts}
 use Rattle.hpb_device.specs.State.{DeviceState}
 use Rattle.trace_text.specs.Grammar.{trace_line}
 use Rattle.trace_text.specs.Lines.{IsLine, IsWithinLine, TakesLine, EndsAt, BeginsLong, WhereTold}
-use Rattle.trace_replay.specs.Moments.{Standing, Leads, Cuts, CutLineTo, IsServedLine}
+use Rattle.trace_text.specs.Written.{counts_line}
+use Rattle.trace_replay.specs.Moments.{Standing, Leads, Cuts, CutLineTo}
 use Rattle.trace_replay.specs.Writes.{AppendsFront, HasWrittenUpTo}
 use Rattle.trace_replay.specs.declared.replay.Turn.{Turn}
 use Rattle.trace_replay.specs.declared.replay.Turn.TheVariants.{Served, Ended, Bad, Unread, Unwritten}
@@ -55,10 +57,6 @@ TakesLines left [] now = now ≡ left
 TakesLines left (text ∷ texts) now = (mid : Option (List ℕ)) × IsLine text × WhereTold (TakesLine text) left mid
     × TakesLines mid texts now
 
--- a text that is no line of a trace, or one that isn't served
-abbrev pub IsRefusedText : List ℕ → Type 0
-IsRefusedText text = (trace_line text ≡ None) ⊎ ((line : Line) × (trace_line text ≡ Some line) × ¬ IsServedLine line)
-
 -- a text that is told begins with a line that is too long
 abbrev pub IsLong : Option (List ℕ) → Type 0
 IsLong None = ⊤
@@ -69,10 +67,10 @@ abbrev pub HasMore : Option (List ℕ) → Type 0
 HasMore None = ⊤
 HasMore (Some text) = ¬ (text ≡ [])
 
--- the next line is too long, and nothing was taken; or it was taken and is refused. This is what follows what was taken.
+-- the next line is too long, and nothing was taken; or it was taken and is none of a trace. This is what follows what was taken.
 abbrev pub IsBadNext : (left behind : Option (List ℕ)) → Type 0
 IsBadNext left behind = (IsLong left × Keeps left behind)
-    ⊎ ((text : List ℕ) × WhereTold (TakesLine text) left behind × IsRefusedText text)
+    ⊎ ((text : List ℕ) × WhereTold (TakesLine text) left behind × (trace_line text ≡ None))
 
 -- some bytes were read and not taken, and what is left in the source follows them
 abbrev pub ReadsAhead : (rest source_left : Option (List ℕ)) → Type 0
@@ -95,14 +93,14 @@ IsCutNext s left p now = (now ≡ p)
 abbrev pub TurnAt : (start : DeviceState) (before : Option (List ℕ)) (p : Progress) (old new : DeviceState) (left left_now written : Option (List ℕ)) (gathered : List ℕ) → Turn → Type 0
 TurnAt start before p old new left left_now written gathered Served =
     (text : List ℕ) × (line : Line) × IsLine text × WhereTold (TakesLine text) left left_now
-    × (trace_line text ≡ Some line) × IsServedLine line
+    × (trace_line text ≡ Some line)
     × Leads (LineTo (sizes_of start) line p) start new before written gathered
 TurnAt start before p old new left left_now written gathered Ended =
-    WhereTold EndsAt left left_now × (new.store ≡ old.store) × HasWrittenUpTo before written (print p.events) gathered
+    WhereTold EndsAt left left_now × (new ≡ old) × HasWrittenUpTo before written (print p.events) gathered
 TurnAt start before p old new left left_now written gathered Unread =
-    Keeps left left_now × (new.store ≡ old.store) × Appends before written (print p.events)
+    Keeps left left_now × (new ≡ old) × Appends before written (print p.events)
 TurnAt start before p old new left left_now written gathered Bad =
-    IsBadNext left left_now × (new.store ≡ old.store) × HasWrittenUpTo before written (print p.events) gathered
+    IsBadNext left left_now × (new ≡ old) × HasWrittenUpTo before written (print p.events) gathered
 TurnAt start before p old new left left_now written gathered Unwritten = Cuts (IsCutNext (sizes_of start) left p) start new before written
 
 abbrev pub TurnIs : (old new : DeviceState) (left left_now written written_now : Option (List ℕ)) (gathered gathered_now : List ℕ) → Turn → Type 0
@@ -121,7 +119,6 @@ pub record Ran (s : Sizes) (left now : Option (List ℕ)) (count : ℕ) (facts :
   pub counted : length texts ≡ count
   pub replays : Replays s lines begun moment
   pub drains : DrainsReads s lines begun moment
-  pub serves : All IsServedLine lines
   pub shows : facts moment
 
 -- the last words of a run
@@ -131,41 +128,45 @@ bad_line_text number = codes "E line " ++ decimal number ++ codes "\n"
 abbrev pub long_text : List ℕ
 long_text = codes "E long\n"
 
+-- the last line of a trace that was taken whole
+abbrev pub counts_text : Counts → List ℕ
+counts_text counts =
+    counts_line (counts.steps ∷ counts.lookups ∷ counts.entries ∷ counts.moved ∷ counts.erased ∷ [])
+
 -- What a run had to write when its sink failed, where so many lines were taken and served: the text of the next line as far
 -- as it was served, or of all of them with the last words.
-abbrev pub IsCutShort : Sizes → (mid : Option (List ℕ)) → (limit n : ℕ) → (p last : Progress) → (words : List ℕ)
-    → Type 0
-IsCutShort s mid limit n p last words = (IsCutNext s mid p last × (n ≤ limit) × (n ≡ limit → last ≡ p) × (words ≡ []))
+abbrev pub IsCutShort : Sizes → (counted : Progress → Counts → Type 0) → (mid : Option (List ℕ)) → (limit n : ℕ)
+    → (p last : Progress) → (words : List ℕ) → Type 0
+IsCutShort s counted mid limit n p last words =
+    (IsCutNext s mid p last × (n ≤ limit) × (n ≡ limit → last ≡ p) × (words ≡ []))
     ⊎ ((last ≡ p) × (n < limit) × (words ≡ bad_line_text (n + 1)) × ((behind : Option (List ℕ)) × IsBadNext mid behind))
     ⊎ ((last ≡ p) × (n ≡ limit) × (words ≡ long_text) × HasMore mid)
+    ⊎ ((last ≡ p) × (n ≤ limit) × ((behind : Option (List ℕ)) × WhereTold EndsAt mid behind) × ((counts : Counts) × counted p counts × (words ≡ counts_text counts)))
 
--- What a replay leaves at each status. `good` is what is known of the events and of the device, and `left_now` is what is
--- left in the source.
-abbrev pub RunIs : Sizes → (good : Progress → Type 0) → (left left_now written written_now : Option (List ℕ)) → ℕ
-    → Status → Type 0
-RunIs s good left left_now written written_now limit Done =
-    (mid : Option (List ℕ)) × (n : ℕ) × Ran s left mid n (λ p. good p × Appends written written_now (print p.events))
+-- What a replay leaves at each status. `good` is what is known of the events and of the device, `counted` what is known of
+-- the counts at the end, and `left_now` is what is left in the source.
+abbrev pub RunIs : Sizes → (good : Progress → Type 0) → (counted : Progress → Counts → Type 0)
+    → (left left_now written written_now : Option (List ℕ)) → ℕ → Status → Type 0
+RunIs s good counted left left_now written written_now limit Done =
+    (mid : Option (List ℕ)) × (n : ℕ)
+    × Ran s left mid n (λ p. good p × ((counts : Counts) × counted p counts × Appends written written_now (print p.events ++ counts_text counts)))
     × (n ≤ limit) × WhereTold EndsAt mid left_now
-RunIs s good left left_now written written_now limit (BadLine number) =
+RunIs s good counted left left_now written written_now limit (BadLine number) =
     (mid : Option (List ℕ)) × (behind : Option (List ℕ)) × (n : ℕ)
     × Ran s left mid n (λ p. good p × Appends written written_now (print p.events ++ bad_line_text number))
     × (n < limit) × (number ≡ n + 1) × IsBadNext mid behind × ReadsAhead behind left_now
-RunIs s good left left_now written written_now limit ReadFault =
+RunIs s good counted left left_now written written_now limit ReadFault =
     (mid : Option (List ℕ)) × (n : ℕ) × Ran s left mid n (λ p. good p × Appends written written_now (print p.events))
     × (n ≤ limit) × StopsWithinLine mid left_now
-RunIs s good left left_now written written_now limit LongTrace =
+RunIs s good counted left left_now written written_now limit LongTrace =
     (mid : Option (List ℕ))
     × Ran s left mid limit (λ p. good p × Appends written written_now (print p.events ++ long_text)) × HasMore mid
     × ReadsAhead mid left_now
-RunIs s good left left_now written written_now limit WriteFault =
+RunIs s good counted left left_now written written_now limit WriteFault =
     (mid : Option (List ℕ)) × (n : ℕ) × (last : Progress) × (words : List ℕ)
-    × Ran s left mid n (λ p. IsCutShort s mid limit n p last words) × good last
+    × Ran s left mid n (λ p. IsCutShort s counted mid limit n p last words) × good last
     × AppendsFront written written_now (print last.events ++ words)
-RunIs s good left left_now written written_now limit _ = ⊥
-
--- a device with this store was left where it stood at this moment
-abbrev pub IsLeft : (start now : DeviceState) → Progress → Type 0
-IsLeft start now p = (device : DeviceState) × Standing start device p × (now.store ≡ device.store)
+RunIs s good counted left left_now written written_now limit _ = ⊥
 
 -- a text and last words were written, and the status is this; or a front of them, where the sink failed
 abbrev pub Finishes : (old new : Option (List ℕ)) (gathered words : List ℕ) (faults faults_now : ℕ) (status result : Status) → Type 0
@@ -211,18 +212,18 @@ IsRefusedRun words geometry text = (¬ IsReplay words × (text ≡ usage_text))
     ⊎ (IsReplay words × ¬ IsNamed words geometry × (text ≡ geometry_text))
 
 -- What a run leaves at each status. `same` says that nothing was read, and the chip is as it came.
-abbrev pub ProgramIs : List (List ℕ) → Geometry → (good : Progress → Type 0) → (same : Type 0)
-    → (left left_now written written_now : Option (List ℕ)) → ℕ → Status → Type 0
-ProgramIs words geometry good same left left_now written written_now limit Usage =
+abbrev pub ProgramIs : List (List ℕ) → Geometry → (good : Progress → Type 0) → (counted : Progress → Counts → Type 0)
+    → (same : Type 0) → (left left_now written written_now : Option (List ℕ)) → ℕ → Status → Type 0
+ProgramIs words geometry good counted same left left_now written written_now limit Usage =
     ¬ IsReplay words × same × Appends written written_now usage_text
-ProgramIs words geometry good same left left_now written written_now limit BadGeometry =
+ProgramIs words geometry good counted same left left_now written written_now limit BadGeometry =
     IsReplay words × ¬ IsNamed words geometry × same × Appends written written_now geometry_text
-ProgramIs words geometry good same left left_now written written_now limit Memory =
+ProgramIs words geometry good counted same left left_now written written_now limit Memory =
     IsPlanned words geometry × same × (written_now ≡ written)
-ProgramIs words geometry good same left left_now written written_now limit WriteFault =
+ProgramIs words geometry good counted same left left_now written written_now limit WriteFault =
     ((text : List ℕ) × IsRefusedRun words geometry text × same × AppendsFront written written_now text)
     ⊎ (IsPlanned words geometry
-    × RunIs (sizes_on (named_unit words) geometry) good left left_now written written_now limit WriteFault)
-ProgramIs words geometry good same left left_now written written_now limit status =
+    × RunIs (sizes_on (named_unit words) geometry) good counted left left_now written written_now limit WriteFault)
+ProgramIs words geometry good counted same left left_now written written_now limit status =
     IsPlanned words geometry
-    × RunIs (sizes_on (named_unit words) geometry) good left left_now written written_now limit status
+    × RunIs (sizes_on (named_unit words) geometry) good counted left left_now written written_now limit status

@@ -4,14 +4,16 @@ ghost use Rattle.hex.specs.Hex.{IsBytes};
 ghost use Rattle.flat_unit.specs.Print.{line_of};
 ghost use Rattle.trace_text.specs.Written.{upiu_line};
 ghost use Rattle.trace_text.specs.Shown.{shown_line};
+ghost use Rattle.trace_replay.specs.Run.{counts_text};
 ghost use Rattle.trace_replay.specs.Showing.{shown_text};
 ghost use Rattle.trace_replay.specs.Writes.{Writes};
 
 use flat_unit::Event;
+use hpb_device::Counts;
 use hpb_outside::{Failed, NoMemory, Sink};
 use std::alloc::Global;
 use std::marker::Model;
-use trace_text::{put_event, put_shown, put_upiu};
+use trace_text::{put_counts, put_event, put_shown, put_upiu};
 
 /// The bytes that are gathered at most.
 const OUTPUT_BYTES: usize = 262_144;
@@ -61,6 +63,22 @@ impl Output {
         ensures { self.new ≡ self.old ++ line_of event.now }
     {
         let len = put_event(event, &mut self.text[self.len..]);
+        self.len += len;
+    }
+
+    /// Adds the line of the counts.
+    pub(crate) fn push_counts(&mut self, counts: Counts)
+        requires { length self.old + 142 ≤ 262144 }
+        ensures { self.new ≡ self.old ++ counts_text counts }
+    {
+        let numbers = [
+            counts.steps,
+            counts.lookups,
+            counts.entries,
+            counts.moved,
+            counts.erased,
+        ];
+        let len = put_counts(&numbers, &mut self.text[self.len..]);
         self.len += len;
     }
 

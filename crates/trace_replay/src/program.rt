@@ -1,15 +1,15 @@
 ghost use Rattle.std.specs.Prelude.{IsTrue, false, ◌≡◌, ◌≤◌, ◌⊎◌, ℕ, List, [], None, map, string_bytes};
-ghost use Rattle.flash_pages.specs.Chip.{erased_chip};
 ghost use Rattle.std.specs.Io.KnownBytes.{Appends, IsAtEnd, prepend_known};
+ghost use Rattle.hpb_device.specs.Counts.{no_counts};
 ghost use Rattle.hpb_device.specs.Standing.{sizes_of};
-ghost use Rattle.hpb_device.specs.State.{IsSound};
-ghost use Rattle.trace_replay.specs.Run.{CountsFault, EndsLong, Finishes, IsLeft, IsPlanned, ProgramIs, RunIs, SinkEnds, SourceEnds, bad_line_text};
+ghost use Rattle.trace_replay.specs.Moments.{Standing};
+ghost use Rattle.trace_replay.specs.Run.{CountsFault, EndsLong, Finishes, IsPlanned, ProgramIs, RunIs, SinkEnds, SourceEnds, bad_line_text, counts_text};
 ghost use Rattle.trace_replay.specs.Showing.{ShowProgramIs};
 ghost use Rattle.trace_replay.specs.ByText.{is_shown_line, is_trace_line};
 ghost use Rattle.trace_replay.specs.Headline.{DrainsAll, EndsByText, Tells};
 ghost use Rattle.flat_unit.specs.Reads.{ReadsAllowed, ReadsEndGood};
 ghost use Rattle.trace_replay.specs.Options.{cut_shape};
-ghost use Rattle.trace_replay.specs.Transcript.{IsTranscript, sizes_on, zero_unit};
+ghost use Rattle.trace_replay.specs.Transcript.{AreCounts, IsChipOf, IsTranscript, SendsUnready, sizes_on, unit_on};
 ghost use Rattle.trace_replay.specs.Writes.{AppendsFront};
 ghost use Rattle.trace_replay.specs.Words.{IsReplay, IsShow, named_chip, named_unit};
 
@@ -29,9 +29,9 @@ pub(crate) const LINES: u32 = 1_000_000;
 
 /// Runs a command over a source, and prints to a sink. The words are those after the program's name.
 ///
-/// `replay` replays a trace against a device with one logical unit over an erased chip, and prints the transcript. Its
-/// options name the chip and the unit, and the chip has to be the named one. `show` prints one line for each line of a
-/// transcript, and leaves the chip alone.
+/// `replay` replays a trace against a device with one logical unit over the chip, whatever it holds, and prints the transcript and
+/// what was counted. Its options name the chip and the unit, and the chip has to be the named one. `show` prints one line for each
+/// line of a transcript, and leaves the chip alone.
 pub fn run<S: Source, K: Sink, F: Flash>(
     alloc: Global,
     words: &[String],
@@ -39,11 +39,10 @@ pub fn run<S: Source, K: Sink, F: Flash>(
     sink: &mut K,
     flash: F,
 ) -> Outcome<F>
-    requires { F.pages flash ≡ erased_chip (F.geometry flash) }
     // What was read and written, why the run ended, and what is known of the events and of the chip that is handed back.
     ensures run { ¬ IsShow (map string_bytes words.now) → ProgramIs (map string_bytes words.now) (F.geometry flash)
-        (λ p. IsTranscript (named_unit (map string_bytes words.now)) (F.geometry flash)
-        (F.faults flash) (F.faults result.flash) (F.pages result.flash) p.events)
+        (IsTranscript (named_unit (map string_bytes words.now)) (F.geometry flash)
+        (F.faults flash) (F.faults result.flash) (F.pages flash) (F.pages result.flash)) AreCounts
         ((source.new ≡ source.old) × (F.pages result.flash ≡ F.pages flash))
         (S.left source.old) (S.left source.new) (K.written sink.old) (K.written sink.new) 1000000 result.status }
     // What is shown of each line, and why the run ended.
@@ -53,16 +52,25 @@ pub fn run<S: Source, K: Sink, F: Flash>(
     ensures geometry { F.geometry result.flash ≡ F.geometry flash }
     ensures source_faults { SourceEnds (S.faults source.old) (S.faults source.new) result.status }
     ensures sink_faults { SinkEnds (K.faults sink.old) (K.faults sink.new) result.status }
-    // The headline: each block that a read carries was allowed just before it, and each RESPONSE that ends a read is GOOD
-    // or stands directly behind a read of the chip that failed.
+    // The headline: each block that a read carries was allowed just before it, and over a sound chip each RESPONSE that ends a read
+    // is GOOD or stands directly behind a read of the chip that failed.
     ensures reads_allowed { ¬ IsShow (map string_bytes words.now)
         → IsPlanned (map string_bytes words.now) (F.geometry flash)
+        → IsChipOf (named_unit (map string_bytes words.now)) (F.geometry flash) (F.pages flash)
         → Tells result.status (K.written sink.old) (K.written sink.new)
-        (ReadsAllowed (sizes_on (named_unit (map string_bytes words.now)) (F.geometry flash)) (zero_unit (named_unit (map string_bytes words.now)))) }
+        (ReadsAllowed (sizes_on (named_unit (map string_bytes words.now)) (F.geometry flash))
+        (unit_on (named_unit (map string_bytes words.now)) (F.pages flash))) }
     ensures reads_good { ¬ IsShow (map string_bytes words.now)
         → IsPlanned (map string_bytes words.now) (F.geometry flash)
+        → IsChipOf (named_unit (map string_bytes words.now)) (F.geometry flash) (F.pages flash)
         → Tells result.status (K.written sink.old) (K.written sink.new)
         (ReadsEndGood (sizes_on (named_unit (map string_bytes words.now)) (F.geometry flash))) }
+    // Over any other chip each UPIU of a step tells that the chip is none of the device's, or could not be read.
+    ensures unready { ¬ IsShow (map string_bytes words.now)
+        → IsPlanned (map string_bytes words.now) (F.geometry flash)
+        → ¬ IsChipOf (named_unit (map string_bytes words.now)) (F.geometry flash) (F.pages flash)
+        → Tells result.status (K.written sink.old) (K.written sink.new)
+        (SendsUnready (sizes_on (named_unit (map string_bytes words.now)) (F.geometry flash))) }
     // After a `D` line no read is kept, but behind a task that waits for data.
     ensures drained { ¬ IsShow (map string_bytes words.now) → result.status ≡ Status.Done
         → DrainsAll (sizes_on (named_unit (map string_bytes words.now)) (F.geometry flash))
@@ -84,11 +92,10 @@ fn run_command<S: Source, K: Sink, F: Flash>(
     sink: &mut K,
     flash: F,
 ) -> Outcome<F>
-    requires { F.pages flash ≡ erased_chip (F.geometry flash) }
     // What was read and written, why the run ended, and what is known of the events and of the chip that is handed back.
     ensures run { ¬ IsShow (map string_bytes words.now) → ProgramIs (map string_bytes words.now) (F.geometry flash)
-        (λ p. IsTranscript (named_unit (map string_bytes words.now)) (F.geometry flash)
-        (F.faults flash) (F.faults result.flash) (F.pages result.flash) p.events)
+        (IsTranscript (named_unit (map string_bytes words.now)) (F.geometry flash)
+        (F.faults flash) (F.faults result.flash) (F.pages flash) (F.pages result.flash)) AreCounts
         ((source.new ≡ source.old) × (F.pages result.flash ≡ F.pages flash))
         (S.left source.old) (S.left source.new) (K.written sink.old) (K.written sink.new) 1000000 result.status }
     // What is shown of each line, and why the run ended.
@@ -117,11 +124,10 @@ fn run_replay<S: Source, K: Sink, F: Flash>(
     sink: &mut K,
     flash: F,
 ) -> Outcome<F>
-    requires { F.pages flash ≡ erased_chip (F.geometry flash) }
     ensures run { (words : List (List ℕ)) → IsReplay words → named.chip ≡ named_chip words
         → named.unit ≡ cut_shape (named_unit words)
         → ProgramIs words (F.geometry flash)
-        (λ p. IsTranscript (named_unit words) (F.geometry flash) (F.faults flash) (F.faults result.flash) (F.pages result.flash) p.events)
+        (IsTranscript (named_unit words) (F.geometry flash) (F.faults flash) (F.faults result.flash) (F.pages flash) (F.pages result.flash)) AreCounts
         ((source.new ≡ source.old) × (F.pages result.flash ≡ F.pages flash))
         (S.left source.old) (S.left source.new) (K.written sink.old) (K.written sink.new) 1000000 result.status }
     ensures geometry { F.geometry result.flash ≡ F.geometry flash }
@@ -194,14 +200,12 @@ fn replay<S: Source, K: Sink, F: Flash>(
     sink: &mut K,
 ) -> Status
     requires begun { device.old.tasks ≡ [] }
-    requires uncounted { device.old.counts.erased ≡ 0 }
-    requires erased { device.old.store.pages ≡ erased_chip device.old.store.geometry }
-    requires sound { IsSound device.old }
+    requires uncounted { device.old.counts ≡ no_counts }
     requires scanned { device.old.store.scanned ≡ 0 }
     requires some_page { 1 ≤ device.old.store.geometry.pages }
     requires unread { buffers.old.reader ≡ record { held = []; ended = false } }
     requires fresh { buffers.old.output ≡ [] }
-    ensures run { RunIs (sizes_of device.old) (IsLeft device.old device.new)
+    ensures run { RunIs (sizes_of device.old) (Standing device.old device.new) AreCounts
         (prepend_known buffers.old.reader.held (S.left source.old)) (S.left source.new)
         (K.written sink.old) (K.written sink.new) 1000000 result }
     ensures source_faults { SourceEnds (S.faults source.old) (S.faults source.new) result }
@@ -210,13 +214,32 @@ fn replay<S: Source, K: Sink, F: Flash>(
     for number in 0..LINES {
         match take_turn(device, buffers, source, sink) {
             Turn::Served => {}
-            Turn::Ended => return finish(&mut buffers.output, sink, Status::Done),
+            Turn::Ended => return end_of_trace(device, &mut buffers.output, sink),
             Turn::Unread => return Status::ReadFault,
             Turn::Unwritten => return Status::WriteFault,
             Turn::Bad => return refuse_line(&mut buffers.output, sink, number + 1),
         }
     }
-    end_long(buffers, source, sink)
+    match end_long(buffers, source, sink) {
+        Status::Done => end_of_trace(device, &mut buffers.output, sink),
+        status => status,
+    }
+}
+
+/// Ends a trace that was taken whole with what the device has counted.
+fn end_of_trace<K: Sink, F: Flash>(
+    device: &Device<F>,
+    output: &mut Output,
+    sink: &mut K,
+) -> Status
+    ensures ends { Finishes (K.written sink.old) (K.written sink.new) output.old (counts_text device.now.counts) (K.faults sink.old) (K.faults sink.new)
+        Status.Done result }
+{
+    if make_room(output, sink).is_err() {
+        return Status::WriteFault;
+    }
+    output.push_counts(device.counts());
+    finish(output, sink, Status::Done)
 }
 
 /// Writes what was gathered, and ends with this status.
@@ -253,6 +276,7 @@ pub(crate) fn end_long<S: Source, K: Sink>(
     requires { IsTrue buffers.old.reader.ended → IsAtEnd (S.left source.old) }
     ensures ends { EndsLong (K.written sink.old) (K.written sink.new) buffers.old.output
         (prepend_known buffers.old.reader.held (S.left source.old)) (S.left source.new) result }
+    ensures written { result ≡ Status.Done → buffers.new.output ≡ [] }
     ensures source_faults { SourceEnds (S.faults source.old) (S.faults source.new) result }
     ensures sink_faults { SinkEnds (K.faults sink.old) (K.faults sink.new) result }
 {

@@ -2,10 +2,10 @@ ghost use Rattle.std.specs.Prelude.{IsTrue, false, ◌≡◌, ◌<◌, ◌≤◌
 ghost use Rattle.hex.specs.Hex.{IsBytes};
 ghost use Rattle.flat_unit.specs.Print.{line_of};
 ghost use Rattle.flat_unit.specs.Replays.{events_of, failed_events, moved_events};
-ghost use Rattle.flat_unit.specs.Trace.{Upiu, Steps, Drain};
+ghost use Rattle.flat_unit.specs.Trace.{Upiu, Steps, Collect, Drain, ResetLine};
 ghost use Rattle.hpb_device.specs.Standing.{group_of, place_moved};
 ghost use Rattle.trace_text.specs.Grammar.{line_said, room_taken};
-ghost use Rattle.trace_replay.specs.Moments.{Serves, TurnServes};
+ghost use Rattle.trace_replay.specs.Moments.{Serves};
 ghost use Rattle.std.specs.Io.KnownBytes.{IsAtEnd, prepend_known};
 ghost use Rattle.trace_replay.specs.Run.{SinkFaults, SourceFaults, TurnIs};
 ghost use Rattle.trace_replay.specs.Writes.{Grows, KeepsText, WritesAll};
@@ -136,7 +136,7 @@ fn drain<K: Sink, F: Flash>(
     Ok(())
 }
 
-/// Makes so many steps. One where nothing is to be done prints nothing.
+/// Makes so many steps. Behind the first one where nothing is to be done, no other would do anything.
 fn make_steps<K: Sink, F: Flash>(
     device: &mut Device<F>,
     count: u32,
@@ -151,36 +151,73 @@ fn make_steps<K: Sink, F: Flash>(
     for _step in 0..count {
         make_room(output, sink)?;
         let stepped = device.step(upiu);
-        if !stepped.idle {
-            push_step(stepped, upiu, output);
+        if stepped.idle {
+            return Ok(());
         }
+        push_step(stepped, upiu, output);
     }
     Ok(())
 }
 
+/// Makes so many calls of the collector. Behind the first one with nothing to do, no other would do anything.
+fn collect<K: Sink, F: Flash>(
+    device: &mut Device<F>,
+    count: u32,
+    output: &mut Output,
+    sink: &mut K,
+) -> Result<(), Failed>
+    ensures serves { Serves (Collect count) device.old device.new (K.written sink.old) (K.written sink.new) output.old output.new result }
+    ensures grows { Grows (K.written sink.old) (K.written sink.new) }
+    ensures cause { HasCause (K.faults sink.old) (K.faults sink.new) result }
+{
+    for _call in 0..count {
+        make_room(output, sink)?;
+        let stepped = device.collect();
+        if stepped.idle {
+            return Ok(());
+        }
+        push_failed(stepped.failed, output);
+        push_moved(stepped.moved, output);
+    }
+    Ok(())
+}
+
+/// Drops all tasks of the device, which then scans its chip anew.
+fn reset<K: Sink, F: Flash>(
+    device: &mut Device<F>,
+    output: &mut Output,
+    sink: &mut K,
+) -> Result<(), Failed>
+    ensures serves { Serves ResetLine device.old device.new (K.written sink.old) (K.written sink.new) output.old output.new result }
+    ensures grows { Grows (K.written sink.old) (K.written sink.new) }
+    ensures cause { HasCause (K.faults sink.old) (K.faults sink.new) result }
+{
+    make_room(output, sink)?;
+    device.reset();
+    output.push_event(&Event::Reset);
+    Ok(())
+}
+
 /// Hands the device a UPIU of the host.
-fn receive_line<K: Sink, F: Flash>(
+fn receive<K: Sink, F: Flash>(
     device: &mut Device<F>,
     bytes: &[u8],
     upiu: &mut UpiuBuf,
     output: &mut Output,
     sink: &mut K,
-) -> Turn
+) -> Result<(), Failed>
     requires { length bytes.now ≤ 65568 }
-    ensures turn { TurnServes (Upiu bytes.now) device.old device.new (K.written sink.old) (K.written sink.new) output.old output.new result }
+    ensures serves { Serves (Upiu bytes.now) device.old device.new (K.written sink.old) (K.written sink.new) output.old output.new result }
     ensures grows { Grows (K.written sink.old) (K.written sink.new) }
-    ensures faults { SinkFaults (K.faults sink.old) (K.faults sink.new) result }
-    ensures read { ¬ (result ≡ Turn.Unread) }
+    ensures cause { HasCause (K.faults sink.old) (K.faults sink.new) result }
 {
-    if make_room(output, sink).is_err() {
-        return Turn::Unwritten;
-    }
+    make_room(output, sink)?;
     let sent = device.receive(bytes, upiu);
     output.push_upiu(b'>', bytes);
     if let Sent::Upiu = sent {
         output.push_upiu(b'<', upiu.bytes());
     }
-    Turn::Served
+    Ok(())
 }
 
 /// Serves a line, whose UPIU stands at the front of the room.
@@ -189,13 +226,12 @@ fn serve<K: Sink, F: Flash>(
     line: Line,
     buffers: &mut Buffers,
     sink: &mut K,
-) -> Turn
+) -> Result<(), Failed>
     requires { room_taken line ≤ 65568 }
-    ensures turn { TurnServes (line_said buffers.old.room.items line) device.old device.new (K.written sink.old) (K.written sink.new) buffers.old.output buffers.new.output result }
+    ensures serves { Serves (line_said buffers.old.room.items line) device.old device.new (K.written sink.old) (K.written sink.new) buffers.old.output buffers.new.output result }
     ensures reader { buffers.new.reader ≡ buffers.old.reader }
     ensures grows { Grows (K.written sink.old) (K.written sink.new) }
-    ensures faults { SinkFaults (K.faults sink.old) (K.faults sink.new) result }
-    ensures read { ¬ (result ≡ Turn.Unread) }
+    ensures cause { HasCause (K.faults sink.old) (K.faults sink.new) result }
 {
     let Buffers {
         room,
@@ -204,17 +240,12 @@ fn serve<K: Sink, F: Flash>(
         ..
     } = buffers;
     match line {
-        Line::Blank => Turn::Served,
-        Line::Drain => match drain(device, upiu, output, sink) {
-            Ok(()) => Turn::Served,
-            Err(Failed) => Turn::Unwritten,
-        },
-        Line::Upiu(count) => receive_line(device, &room[..count], upiu, output, sink),
-        Line::Steps(count) => match make_steps(device, count, upiu, output, sink) {
-            Ok(()) => Turn::Served,
-            Err(Failed) => Turn::Unwritten,
-        },
-        Line::Collect(_) | Line::Reset => Turn::Bad,
+        Line::Upiu(count) => receive(device, &room[..count], upiu, output, sink),
+        Line::Steps(count) => make_steps(device, count, upiu, output, sink),
+        Line::Collect(count) => collect(device, count, output, sink),
+        Line::Drain => drain(device, upiu, output, sink),
+        Line::Reset => reset(device, output, sink),
+        Line::Blank => Ok(()),
     }
 }
 
@@ -262,8 +293,11 @@ pub(crate) fn take_turn<S: Source, K: Sink, F: Flash>(
         Err(LineFault::TooLong) => return Turn::Bad,
         Err(LineFault::ReadFault) => return Turn::Unread,
     };
-    match parsed {
-        Some(line) => serve(device, line, buffers, sink),
-        None => Turn::Bad,
+    let Some(line) = parsed else {
+        return Turn::Bad;
+    };
+    match serve(device, line, buffers, sink) {
+        Ok(()) => Turn::Served,
+        Err(Failed) => Turn::Unwritten,
     }
 }

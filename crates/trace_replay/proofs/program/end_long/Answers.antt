@@ -1,8 +1,9 @@
-use Rattle.std.proofs.Common.{◌≡◌, ◌++◌, ◌≤◌, ℕ, [], refl, sym, ap, subst, rules, inl, arith, ◌∙◌}
+use Rattle.std.proofs.Common.{◌≡◌, ◌++◌, ◌≤◌, ℕ, [], refl, sym, ap, subst, rules, inl, arith, ◌∙◌, ◌⊎◌, inr}
 use Rattle.trace_text.specs.Lines.{IsWithinLine, ReaderState}
 use Rattle.trace_text.proofs.LinesOf.{within-nil}
 use Rattle.trace_replay.specs.Run.{SinkEnds, long_text}
-use Rattle.trace_replay.specs.declared.status.Status.TheVariants.{LongTrace}
+use Rattle.trace_replay.specs.declared.status.Status.{Status}
+use Rattle.trace_replay.specs.declared.status.Status.TheVariants.{Done, LongTrace, WriteFault}
 use Rattle.trace_replay.proofs.Runs.{ends_wordless, front_wordless, last_long, last_since, more_of, sink_ended, source_ended}
 use Rattle.trace_replay.proofs.Written.{cut_of, whole_of, flushed, gathers_more, nothing_yet, up_to_end}
 use Rattle.trace_replay.specs.Writes.{HasWrittenUpTo}
@@ -20,6 +21,20 @@ returns-in-Ok-true-clause-ends g c before text so_far =
     let more = rw c.in-Ok-true.field-0-test at c.in-Ok-true.ensures.more in
     last_long before _ text _ _ c.finish.result (more_of _ c.has_more.new.self.held _ c.has_more.ensures.text more) (c.has_more.new.self.held, c.has_more.ensures.text)
     (ends_wordless before _ (text ++ long_text) c.finish.result _ (c.finish.ensures.ends before (text ++ long_text) gathered))
+
+-- a trace that is too long doesn't end Done
+long_not_done : LongTrace ≡ Done → ⊥
+long_not_done same = cc
+
+fault_not_done : WriteFault ≡ Done → ⊥
+fault_not_done same = cc
+
+ended_otherwise : {A B C D : Type 0} (result : Status) → ((result ≡ LongTrace) × A × B) ⊎ ((result ≡ WriteFault) × C × D) → result ≡ Done → ⊥
+ended_otherwise result (inl (is, _, _)) done = long_not_done (sym is ∙ done)
+ended_otherwise result (inr (is, _, _)) done = fault_not_done (sym is ∙ done)
+
+pub returns-in-Ok-true-clause-written : goal.returns-in-Ok-true-clause-written
+returns-in-Ok-true-clause-written g c done = absurd (ended_otherwise c.finish.result (c.finish.ensures.ends _ _ (nothing_yet _ c.push_text.new.self)) done)
 
 pub returns-in-Ok-true-clause-source_faults : goal.returns-in-Ok-true-clause-source_faults
 returns-in-Ok-true-clause-source_faults g c =

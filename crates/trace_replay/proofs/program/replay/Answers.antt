@@ -7,12 +7,16 @@ use Rattle.trace_replay.specs.Run.{CountsFault, SinkEnds, SourceEnds}
 use Rattle.trace_replay.specs.declared.status.Status.TheVariants.{Done, BadLine}
 use Rattle.trace_replay.proofs.Runs.{ran_begins, ran_more, ends_done, ends_unread, ends_bad, ends_last, ends_unwritten, sink_ended, source_ended}
 use Rattle.trace_replay.proofs.Transcripts.{ends_in_source}
-use Rattle.trace_replay.proofs.Written.{keeps_same}
+use Rattle.hpb_device.specs.State.{DeviceState}
+use Rattle.trace_replay.specs.Moments.{Standing}
+use Rattle.trace_replay.specs.Transcript.{AreCounts}
+use Rattle.trace_replay.specs.Writes.{HasWrittenUpTo}
+use Rattle.trace_replay.proofs.Written.{all_written, keeps_same}
 use Rattle.trace_replay.proofs.program.replay.Goals as goal
 
 pub loop-number-init : goal.loop-number-init
 loop-number-init g c = record {
-  ran = ran_begins c.args.device.now _ _ _ c.requires.begun c.requires.uncounted c.requires.erased c.requires.sound c.requires.scanned c.requires.some_page c.requires.fresh;
+  ran = ran_begins c.args.device.now _ _ _ c.requires.begun c.requires.uncounted c.requires.scanned c.requires.some_page c.requires.fresh;
   at_end = λ ended. absurd (false≢true (sym (ap (λ (r : ReaderState). r.ended) c.requires.unread) ∙ ended));
   source_same = refl;
   sink_same = refl;
@@ -23,7 +27,7 @@ loop-number-preserved g c =
     let ran = c.loop-number.invariant.ran in
     let turn = c.in-Served.ensures.turn c.args.device.now _ ran.moment ran.shows.0 ran.shows.1 in
     record {
-      ran = ran_more c.args.device.now c.loop-number.device c.take_turn.new.device _ _ _ _ _ _ _ _ c.loop-number.number _ ran turn.0 turn.1 turn.2 turn.3 turn.4 turn.5 turn.6 (omega arith);
+      ran = ran_more c.args.device.now c.loop-number.device c.take_turn.new.device _ _ _ _ _ _ _ _ c.loop-number.number _ ran turn.0 turn.1 turn.2 turn.3 turn.4 turn.5 (omega arith);
       at_end = c.take_turn.ensures.at_end;
       source_same = c.in-Served.ensures.source_faults ∙ c.loop-number.invariant.source_same;
       sink_same = c.in-Served.ensures.sink_faults ∙ c.loop-number.invariant.sink_same;
@@ -34,23 +38,24 @@ returns-in-Ended-clause-run g c =
     let ran = c.loop-number.invariant.ran in
     let turn = c.in-Ended.ensures.turn c.args.device.now _ ran.moment ran.shows.0 ran.shows.1 in
     let few : c.loop-number.number ≤ 1000000 = omega (arith, c.loop-number-test.true) in
-    ends_done _ _ _ _ _ _ _ _ c.loop-number.number _ ran (c.loop-number.device, ran.shows.0, turn.1) c.finish.result few (ends_in_source _ _ _ turn.0)
-    (c.finish.ensures.ends _ (print ran.moment.events) turn.2)
+    let at = subst (λ (d : DeviceState). Standing c.args.device.now d ran.moment) (sym turn.1) ran.shows.0 in
+    ends_done _ _ _ _ _ _ _ _ _ c.loop-number.number _ ran at c.take_turn.new.device.counts c.end_of_trace.result (record { steps = at.steps; moved = at.moved }) few (ends_in_source _ _ _ turn.0)
+    (c.end_of_trace.ensures.ends _ (print ran.moment.events) turn.2)
 
 pub returns-in-Ended-clause-source_faults : goal.returns-in-Ended-clause-source_faults
 returns-in-Ended-clause-source_faults g c =
     let ran = c.loop-number.invariant.ran in
     let turn = c.in-Ended.ensures.turn c.args.device.now _ ran.moment ran.shows.0 ran.shows.1 in
     let same = c.in-Ended.ensures.source_faults ∙ c.loop-number.invariant.source_same in
-    source_ended _ _ c.finish.result Done same same (c.finish.ensures.ends _ (print ran.moment.events) turn.2)
+    source_ended _ _ c.end_of_trace.result Done same same (c.end_of_trace.ensures.ends _ (print ran.moment.events) turn.2)
 
 pub returns-in-Ended-clause-sink_faults : goal.returns-in-Ended-clause-sink_faults
 returns-in-Ended-clause-sink_faults g c =
     let ran = c.loop-number.invariant.ran in
     let turn = c.in-Ended.ensures.turn c.args.device.now _ ran.moment ran.shows.0 ran.shows.1 in
     let same = c.in-Ended.ensures.sink_faults ∙ c.loop-number.invariant.sink_same in
-    subst (λ (n : ℕ). SinkEnds n (g.K.Sink.faults c.finish.new.sink) c.finish.result) same
-    (sink_ended _ _ c.finish.result Done (λ none. none) (c.finish.ensures.ends _ (print ran.moment.events) turn.2))
+    subst (λ (n : ℕ). SinkEnds n (g.K.Sink.faults c.end_of_trace.new.sink) c.end_of_trace.result) same
+    (sink_ended _ _ c.end_of_trace.result Done (λ none. none) (c.end_of_trace.ensures.ends _ (print ran.moment.events) turn.2))
 
 pub returns-in-Unread-clause-run : goal.returns-in-Unread-clause-run
 returns-in-Unread-clause-run g c =
@@ -58,7 +63,8 @@ returns-in-Unread-clause-run g c =
     let turn = c.in-Unread.ensures.turn c.args.device.now _ ran.moment ran.shows.0 ran.shows.1 in
     let few : c.loop-number.number ≤ 1000000 = omega (arith, c.loop-number-test.true) in
     let held = c.in-Unread.ensures.unread refl in
-    ends_unread _ _ _ _ _ _ _ _ c.loop-number.number _ ran (c.loop-number.device, ran.shows.0, turn.1) few
+    let at = subst (λ (d : DeviceState). Standing c.args.device.now d ran.moment) (sym turn.1) ran.shows.0 in
+    ends_unread _ _ AreCounts _ _ _ _ _ _ c.loop-number.number _ ran at few
     (record { held = c.take_turn.new.buffers.reader.held; within = held.0; size = held.1; follows = turn.0 }) turn.2
 
 pub returns-in-Unread-clause-source_faults : goal.returns-in-Unread-clause-source_faults
@@ -69,7 +75,7 @@ pub returns-in-Unwritten-clause-run : goal.returns-in-Unwritten-clause-run
 returns-in-Unwritten-clause-run g c =
     let ran = c.loop-number.invariant.ran in
     let turn = c.in-Unwritten.ensures.turn c.args.device.now _ ran.moment ran.shows.0 ran.shows.1 in
-    ends_unwritten _ _ _ _ None _ _ 1000000 c.loop-number.number _ ran c.args.device.now c.take_turn.new.device (omega (arith, c.loop-number-test.true)) turn (c.take_turn.new.device, turn.standing, refl)
+    ends_unwritten _ _ _ _ _ None _ _ 1000000 c.loop-number.number _ ran c.args.device.now c.take_turn.new.device (omega (arith, c.loop-number-test.true)) turn turn.standing
 
 pub returns-in-Unwritten-clause-sink_faults : goal.returns-in-Unwritten-clause-sink_faults
 returns-in-Unwritten-clause-sink_faults g c =
@@ -80,7 +86,8 @@ returns-in-Bad-clause-run g c =
     let ran = c.loop-number.invariant.ran in
     let turn = c.in-Bad.ensures.turn c.args.device.now _ ran.moment ran.shows.0 ran.shows.1 in
     let few : c.loop-number.number < 1000000 = omega (arith, c.loop-number-test.true) in
-    ends_bad _ _ _ _ _ _ _ _ c.loop-number.number _ ran (c.loop-number.device, ran.shows.0, turn.1) c.refuse_line.result _ _ (omega arith) few turn.0
+    let at = subst (λ (d : DeviceState). Standing c.args.device.now d ran.moment) (sym turn.1) ran.shows.0 in
+    ends_bad _ _ _ _ _ _ _ _ _ c.loop-number.number _ ran at c.refuse_line.result _ _ (omega arith) few turn.0
     (c.take_turn.new.buffers.reader.held, keeps_same _) (c.refuse_line.ensures.ends _ (print ran.moment.events) turn.2)
 
 pub returns-in-Bad-clause-source_faults : goal.returns-in-Bad-clause-source_faults
@@ -98,17 +105,47 @@ returns-in-Bad-clause-sink_faults g c =
     subst (λ (n : ℕ). SinkEnds n (g.K.Sink.faults c.refuse_line.new.sink) c.refuse_line.result) same
     (sink_ended _ _ c.refuse_line.result (BadLine _) (λ none. none) (c.refuse_line.ensures.ends _ (print ran.moment.events) turn.2))
 
-pub returns-clause-run : goal.returns-clause-run
-returns-clause-run g c =
+-- all lines that may be taken were taken, and the trace ends there
+pub returns-in-Done-clause-run : goal.returns-in-Done-clause-run
+returns-in-Done-clause-run g c =
     let ran = c.loop-number.invariant.ran in
     let all : c.loop-number.number ≡ 1000000 = omega (arith, c.loop-number-test.false, c.loop-number.auto.number-end) in
-    ends_last _ _ _ _ _ _ _ _ c.loop-number.number _ ran (c.loop-number.device, ran.shows.0, refl) c.end_long.result all
+    let last = rw c.in-Done.is at (c.end_long.ensures.ends _ (print ran.moment.events) ran.shows.1) in
+    let whole : HasWrittenUpTo (g.K.Sink.written c.args.sink.now) (g.K.Sink.written c.end_long.new.sink) (print ran.moment.events) c.end_long.new.buffers.output =
+    rw (c.end_long.ensures.written c.in-Done.is) (all_written _ _ (print ran.moment.events) last.0) in
+    ends_done _ _ _ _ _ _ _ _ _ c.loop-number.number _ ran ran.shows.0 c.loop-number.device.counts c.end_of_trace-in-Done.result (record { steps = ran.shows.0.steps; moved = ran.shows.0.moved }) (omega (arith, all)) last.1
+    (c.end_of_trace-in-Done.ensures.ends _ (print ran.moment.events) whole)
+
+pub returns-in-Done-clause-source_faults : goal.returns-in-Done-clause-source_faults
+returns-in-Done-clause-source_faults g c =
+    let ran = c.loop-number.invariant.ran in
+    let last = rw c.in-Done.is at (c.end_long.ensures.ends _ (print ran.moment.events) ran.shows.1) in
+    let whole : HasWrittenUpTo (g.K.Sink.written c.args.sink.now) (g.K.Sink.written c.end_long.new.sink) (print ran.moment.events) c.end_long.new.buffers.output =
+    rw (c.end_long.ensures.written c.in-Done.is) (all_written _ _ (print ran.moment.events) last.0) in
+    let same = (rw c.in-Done.is at c.end_long.ensures.source_faults) ∙ c.loop-number.invariant.source_same in
+    source_ended _ _ c.end_of_trace-in-Done.result Done same same (c.end_of_trace-in-Done.ensures.ends _ (print ran.moment.events) whole)
+
+pub returns-in-Done-clause-sink_faults : goal.returns-in-Done-clause-sink_faults
+returns-in-Done-clause-sink_faults g c =
+    let ran = c.loop-number.invariant.ran in
+    let last = rw c.in-Done.is at (c.end_long.ensures.ends _ (print ran.moment.events) ran.shows.1) in
+    let whole : HasWrittenUpTo (g.K.Sink.written c.args.sink.now) (g.K.Sink.written c.end_long.new.sink) (print ran.moment.events) c.end_long.new.buffers.output =
+    rw (c.end_long.ensures.written c.in-Done.is) (all_written _ _ (print ran.moment.events) last.0) in
+    let same = (rw c.in-Done.is at c.end_long.ensures.sink_faults) ∙ c.loop-number.invariant.sink_same in
+    subst (λ (n : ℕ). SinkEnds n (g.K.Sink.faults c.end_of_trace-in-Done.new.sink) c.end_of_trace-in-Done.result) same
+    (sink_ended _ _ c.end_of_trace-in-Done.result Done (λ none. none) (c.end_of_trace-in-Done.ensures.ends _ (print ran.moment.events) whole))
+
+pub returns-in_default-clause-run : goal.returns-in_default-clause-run
+returns-in_default-clause-run g c =
+    let ran = c.loop-number.invariant.ran in
+    let all : c.loop-number.number ≡ 1000000 = omega (arith, c.loop-number-test.false, c.loop-number.auto.number-end) in
+    ends_last _ _ _ _ _ _ _ _ _ c.loop-number.number _ ran ran.shows.0 c.end_long.result all c.in_default.not-Done
     (c.end_long.ensures.ends _ (print ran.moment.events) ran.shows.1)
 
-pub returns-clause-source_faults : goal.returns-clause-source_faults
-returns-clause-source_faults g c =
+pub returns-in_default-clause-source_faults : goal.returns-in_default-clause-source_faults
+returns-in_default-clause-source_faults g c =
     subst (λ (n : ℕ). SourceEnds n (g.S.Source.faults c.end_long.new.source) c.end_long.result) c.loop-number.invariant.source_same c.end_long.ensures.source_faults
 
-pub returns-clause-sink_faults : goal.returns-clause-sink_faults
-returns-clause-sink_faults g c =
+pub returns-in_default-clause-sink_faults : goal.returns-in_default-clause-sink_faults
+returns-in_default-clause-sink_faults g c =
     subst (λ (n : ℕ). SinkEnds n (g.K.Sink.faults c.end_long.new.sink) c.end_long.result) c.loop-number.invariant.sink_same c.end_long.ensures.sink_faults

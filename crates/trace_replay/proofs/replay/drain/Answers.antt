@@ -3,7 +3,8 @@ use Rattle.std.proofs.lemmas.Result.{err_from_is_err_and}
 use Rattle.flat_unit.specs.Print.{print}
 use Rattle.hpb_device.specs.State.{AtRest}
 use Rattle.hpb_device.proofs.Going.{at_rest_of}
-use Rattle.trace_replay.proofs.Standing.{Stepping, idle_rests, stepping_of, draining_begins, draining_written, draining_goes_on, draining_is_cut, draining_ends}
+use Rattle.trace_replay.proofs.Draining.{draining_begins, draining_written, draining_goes_on, draining_is_cut, draining_ends}
+use Rattle.trace_replay.proofs.Standing.{Stepping, idle_rests, stepping_of}
 use Rattle.trace_replay.proofs.Written.{grows_more, grows_none, keeps_grows}
 use Rattle.trace_replay.proofs.replay.drain.Goals as goal
 
@@ -18,8 +19,8 @@ pub steps-preserved : goal.steps-preserved
 steps-preserved g c =
     let going : AtRest c.steps.device → ⊥ = c.in-Step.ensures.rest.0 refl in
     let step : Stepping c.steps.device c.step-stepped.new.self c.step-stepped.result c.step-stepped.new.out =
-    stepping_of c.steps.device c.step-stepped.new.self c.step-stepped.result c.step-stepped.new.out c.step-stepped.ensures.stands c.step-stepped.ensures.entries c.step-stepped.ensures.listings
-    (λ idle. going (idle_rests c.steps.device.store.phase c.steps.device.tasks (c.step-stepped.ensures.idle.0 idle))) c.step-stepped.ensures.steps c.step-stepped.ensures.fewer c.step-stepped.ensures.shape
+    stepping_of c.steps.device c.step-stepped.new.self c.step-stepped.result c.step-stepped.new.out c.step-stepped.ensures.stands c.step-stepped.ensures.foreign c.step-stepped.ensures.entries c.step-stepped.ensures.listings
+    (λ idle. going (idle_rests c.steps.device.store.phase c.steps.device.tasks (c.step-stepped.ensures.idle.0 idle))) c.step-stepped.ensures.idle.1 c.step-stepped.ensures.steps c.step-stepped.ensures.fewer c.step-stepped.ensures.shape
     c.push_step.ensures.bytes c.push_step.ensures.small in
     record {
       drains = λ start before p at printed.

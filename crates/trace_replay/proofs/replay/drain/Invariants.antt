@@ -5,7 +5,7 @@ use Rattle.hpb_device.specs.Left.{steps_left}
 use Rattle.hpb_device.specs.State.{DeviceState}
 use Rattle.trace_replay.specs.Moments.{Standing}
 use Rattle.trace_replay.specs.Writes.{Grows, HasWrittenUpTo}
-use Rattle.trace_replay.proofs.Standing.{Draining}
+use Rattle.trace_replay.proofs.Draining.{Draining}
 use Rattle.trace_replay.proofs.replay.drain.Given as goal
 
 abbrev pub invariant-steps : goal.invariant-steps

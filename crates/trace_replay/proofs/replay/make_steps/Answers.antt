@@ -1,19 +1,11 @@
-use Rattle.std.proofs.Common.{◌≡◌, ◌+◌, Bool, true, false, not, refl, sym, ◌∙◌, arith, add-one}
+use Rattle.std.proofs.Common.{◌≡◌, ◌+◌, refl, sym, ◌∙◌, arith, add-one}
 use Rattle.std.proofs.lemmas.Bool.{false≢true}
 use Rattle.std.proofs.lemmas.Result.{err_from_is_err_and}
 use Rattle.flat_unit.specs.Print.{print}
-use Rattle.trace_replay.proofs.Standing.{idle_rests, stepping_of, made_begins, made_written, made_goes_on, made_rests, made_is_cut, made_ends}
+use Rattle.trace_replay.proofs.Making.{made_all, made_begins, made_written, made_goes_on, made_is_cut, made_ends}
+use Rattle.trace_replay.proofs.Standing.{idle_rests, stepping_of}
 use Rattle.trace_replay.proofs.Written.{grows_more, grows_none, keeps_grows}
-use Rattle.trace_replay.proofs.replay.make_steps.Goals.{then-not-stepped, else-not-stepped}
 use Rattle.trace_replay.proofs.replay.make_steps.Goals as goal
-
-not_both : (b : Bool) → not b ≡ true → b ≡ true → ⊥
-not_both true is_not is = false≢true is_not
-not_both false is_not is = false≢true is
-
-one_of : (b : Bool) → not b ≡ false → b ≡ true
-one_of true is_not = refl
-one_of false is_not = absurd (false≢true (sym is_not))
 
 pub loop-step-init : goal.loop-step-init
 loop-step-init g c = record {
@@ -23,21 +15,26 @@ loop-step-init g c = record {
 }
 
 pub loop-step-preserved : goal.loop-step-preserved
-loop-step-preserved g c = record {
-  makes = λ start before p at printed.
-      let so_far = c.loop-step.invariant.makes start before p at printed in
-      let written = made_written start c.loop-step.device before _ _ _ _ p c.loop-step._step so_far (c.in_ok-make_room.ensures.text before (print so_far.moment.events) so_far.printed) in
-      elim c.if-not-stepped.branch [
-        | then-not-stepped w ↦ let step = stepping_of c.loop-step.device c.step-stepped.new.self c.step-stepped.result c.step-stepped.new.out c.step-stepped.ensures.stands c.step-stepped.ensures.entries c.step-stepped.ensures.listings
-            (λ idle. not_both c.step-stepped.result.idle w.if-not-stepped.true idle) c.step-stepped.ensures.steps c.step-stepped.ensures.fewer c.step-stepped.ensures.shape w.push_step.ensures.bytes w.push_step.ensures.small in
-            rw w.output-is (made_goes_on start c.loop-step.device c.step-stepped.new.self before _ _ _ p c.step-stepped.result c.step-stepped.new.out c.loop-step._step (c.loop-step._step + 1) (rw add-one refl) step w.push_step.ensures.text written)
-        | else-not-stepped w ↦ let idle = one_of c.step-stepped.result.idle w.if-not-stepped.false in
-            rw (w.output-is, c.step-stepped.ensures.unchanged idle)
-            (made_rests start c.loop-step.device before _ _ p c.loop-step._step (c.loop-step._step + 1) (rw add-one refl) (idle_rests c.loop-step.device.store.phase c.loop-step.device.tasks (c.step-stepped.ensures.idle.0 idle)) (c.step-stepped.ensures.looked idle) written)
-      ];
-  grows = grows_more _ _ _ c.loop-step.invariant.grows (keeps_grows _ _ _ _ c.make_room.result c.make_room.ensures.text);
-  none = c.in_ok-make_room.ensures.cause.given ∙ c.loop-step.invariant.none;
-}
+loop-step-preserved g c =
+    let step = stepping_of c.loop-step.device c.step-stepped.new.self c.step-stepped.result c.step-stepped.new.out c.step-stepped.ensures.stands c.step-stepped.ensures.foreign c.step-stepped.ensures.entries c.step-stepped.ensures.listings
+    (λ idle. false≢true (sym c.if-stepped.false ∙ idle)) c.step-stepped.ensures.idle.1 c.step-stepped.ensures.steps c.step-stepped.ensures.fewer c.step-stepped.ensures.shape c.push_step.ensures.bytes c.push_step.ensures.small in
+    record {
+      makes = λ start before p at printed.
+          let so_far = c.loop-step.invariant.makes start before p at printed in
+          made_goes_on start c.loop-step.device c.step-stepped.new.self before _ _ _ p c.step-stepped.result c.step-stepped.new.out c.loop-step._step (c.loop-step._step + 1) (rw add-one refl) step c.push_step.ensures.text
+          (made_written start c.loop-step.device before _ _ _ _ p c.loop-step._step so_far (c.in_ok-make_room.ensures.text before (print so_far.moment.events) so_far.printed));
+      grows = grows_more _ _ _ c.loop-step.invariant.grows (keeps_grows _ _ _ _ c.make_room.result c.make_room.ensures.text);
+      none = c.in_ok-make_room.ensures.cause.given ∙ c.loop-step.invariant.none;
+    }
+
+pub returns-then-stepped-clause-serves : goal.returns-then-stepped-clause-serves
+returns-then-stepped-clause-serves g c start before p at printed =
+    let so_far = c.loop-step.invariant.makes start before p at printed in
+    let idle = c.if-stepped.true in
+    rw (c.step-stepped.ensures.unchanged idle)
+    (made_all start c.loop-step.device before _ _ p c.loop-step._step c.args.count (omega (arith, c.loop-step-test.true))
+    (idle_rests c.loop-step.device.store.phase c.loop-step.device.tasks (c.step-stepped.ensures.idle.0 idle)) (c.step-stepped.ensures.looked idle)
+    (made_written start c.loop-step.device before _ _ _ _ p c.loop-step._step so_far (c.in_ok-make_room.ensures.text before (print so_far.moment.events) so_far.printed)))
 
 pub returns-in_err-make_room-clause-serves : goal.returns-in_err-make_room-clause-serves
 returns-in_err-make_room-clause-serves g c start before p at printed =
@@ -52,3 +49,6 @@ returns-clause-serves g c start before p at printed =
 
 pub returns-in_err-make_room-clause-grows : goal.returns-in_err-make_room-clause-grows
 returns-in_err-make_room-clause-grows g c = grows_more _ _ _ c.loop-step.invariant.grows (keeps_grows _ _ _ _ c.make_room.result c.make_room.ensures.text)
+
+pub returns-then-stepped-clause-grows : goal.returns-then-stepped-clause-grows
+returns-then-stepped-clause-grows g c = grows_more _ _ _ c.loop-step.invariant.grows (keeps_grows _ _ _ _ c.make_room.result c.make_room.ensures.text)

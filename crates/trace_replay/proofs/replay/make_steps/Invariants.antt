@@ -4,7 +4,7 @@ use Rattle.flat_unit.specs.Replays.{Progress}
 use Rattle.hpb_device.specs.State.{DeviceState}
 use Rattle.trace_replay.specs.Moments.{Standing}
 use Rattle.trace_replay.specs.Writes.{Grows, HasWrittenUpTo}
-use Rattle.trace_replay.proofs.Standing.{Made}
+use Rattle.trace_replay.proofs.Making.{Made}
 use Rattle.trace_replay.proofs.replay.make_steps.Given as goal
 
 abbrev pub invariant-loop-step : goal.invariant-loop-step

@@ -8,7 +8,7 @@ use Rattle.hpb_device.specs.Advance.{Advances, AllTasks}
 use Rattle.hpb_device.specs.Counts.{counted}
 use Rattle.hpb_device.specs.Left.{steps_left, steps_of, tasks_left, unscanned, wait_of}
 use Rattle.hpb_device.specs.Limits.{limits_of}
-use Rattle.hpb_device.specs.State.{DeviceState}
+use Rattle.hpb_device.specs.State.{DeviceState, IsSound}
 use Rattle.hpb_device.specs.StoreCounts.{CountsStep}
 use Rattle.hpb_device.specs.Task.{IsQueue, IsTaskOk}
 use Rattle.hpb_device.proofs.Chips.{whole_after}
@@ -127,6 +127,7 @@ returns-clause-goes g c =
       ok = subst (λ (x : DeviceState). IsTaskOk x.store.luns (limits_of x.shape) task) c.self.view_is (task_ok g c);
       goes = goes;
       scanned = subst (λ (x : DeviceState). unscanned x ≡ 0) c.self.view_is none;
+      sound = subst IsSound c.self.view_is (stands.ready (is_ready g c)).sound;
       advances = subst (λ (x : DeviceState). Advances (limits_of x.shape) x.store p.new.store x.held c.leave.new.held.items task p.result c.leave.new.out) c.self.view_is (advances g c);
       leaves = c.leave.ensures.leaves;
       same = subst (λ (x : DeviceState). IsSame x.store p.new.store) c.self.view_is p.ensures.same;

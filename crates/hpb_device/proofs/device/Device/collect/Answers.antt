@@ -2,17 +2,18 @@ use Rattle.std.proofs.Common.{◌≡◌, ◌*◌, [], refl, sym, ap, subst, ◌�
 use Rattle.flash_pages.specs.declared.chip.Geometry.{Geometry}
 use Rattle.collector_laws.specs.Changes.{Changes}
 use Rattle.flash_store.specs.declared.answers.Moved.{Moved}
-use Rattle.flash_store.specs.declared.answers.Moved.TheVariants.{Page as MovedPage, Erased as ErasedBlock}
+use Rattle.flash_store.specs.declared.answers.Moved.TheVariants.{Idle, Read as ReadPage, Page as MovedPage, Erased as ErasedBlock}
 use Rattle.flash_store.specs.declared.answers.Phase.TheVariants.{Ready}
 use Rattle.flash_store.specs.Collecting.{as_collected}
 use Rattle.flash_store.specs.Store.{IsCollected, IsStanding}
 use Rattle.hpb_device.specs.Advance.{IsSameStore}
+use Rattle.hpb_device.specs.Calls.{uncollected_in}
 use Rattle.hpb_device.specs.Entries.{EntriesStand}
 use Rattle.hpb_device.specs.Left.{KeepsNoWrite, steps_left}
 use Rattle.hpb_device.specs.Listed.{ListingStands}
 use Rattle.hpb_device.specs.Standing.{DeviceStands, DeviceStandsForeign}
 use Rattle.hpb_device.specs.State.{DeviceState}
-use Rattle.hpb_device.proofs.Collecting.{IsCollecting, IsMoved, collect_left, moved_entries, moved_listings, moved_of_collect, moved_stands, no_foreign, unmoved_stands, whole_moved}
+use Rattle.hpb_device.proofs.Collecting.{IsCollecting, IsMoved, collect_left, collected_over, idle_leaves_none, moved_entries, moved_listings, moved_of_collect, moved_stands, no_foreign, unmoved_stands, whole_moved}
 use Rattle.hpb_device.proofs.Unready.{sound_along}
 use Rattle.hpb_device.proofs.device.Device.collect.Goals as goal
 
@@ -214,3 +215,48 @@ returns-in-Err-clause-stands g c = λ first e at.
     let fault = c.in-Err.ensures.fault ready in
     let same : IsSameStore d.store n.store = record { geometry = is.same.geometry; luns = is.same.luns; units = is.same.units } in
     rw (c.new-in-Err.ensures) (unmoved_stands d n c.in-Err.op first e same fault.chip refl refl refl refl (sound_along d n same fault.chip here.sound) here)
+
+pub returns-in-Ok-Idle-clause-rests : goal.returns-in-Ok-Idle-clause-rests
+returns-in-Ok-Idle-clause-rests g c = λ idle is_ready.
+    let s = c.self.inside in
+    let d : DeviceState = record { store = s.store; shape = s.shape; tasks = s.tasks.items; held = s.held.items; counts = s.counts } in
+    let n : DeviceState = record { store = c.collect_step.new.self; shape = s.shape; tasks = s.tasks.items; held = s.held.items; counts = s.counts } in
+    let ready : d.store.phase ≡ Ready = sym c.phase.ensures.phase ∙ c.in-Ready.is in
+    subst (λ (x : DeviceState). uncollected_in x ≡ 0) c.self.view_is
+    (idle_leaves_none d n (subst (λ (m : Moved). IsCollected d.store m n.store) c.in-Ok-Idle.field-0-is (c.in-Ok-Idle.ensures.moved ready)))
+
+pub returns-in-Ok-Idle-clause-over : goal.returns-in-Ok-Idle-clause-over
+returns-in-Ok-Idle-clause-over g c = λ is_ready given none.
+    let s = c.self.inside in
+    let d : DeviceState = record { store = s.store; shape = s.shape; tasks = s.tasks.items; held = s.held.items; counts = s.counts } in
+    let n : DeviceState = record { store = c.collect_step.new.self; shape = s.shape; tasks = s.tasks.items; held = s.held.items; counts = s.counts } in
+    let ready : d.store.phase ≡ Ready = sym c.phase.ensures.phase ∙ c.in-Ready.is in
+    let is : IsCollecting d n = record { ready = ready; standing = c.phase.ensures.stands; same = c.collect_step.ensures.same; shape = refl; tasks = refl; held = refl } in
+    collected_over d n is Idle (subst (λ (m : Moved). IsCollected d.store m n.store) c.in-Ok-Idle.field-0-is (c.in-Ok-Idle.ensures.moved ready)) none
+
+pub returns-in-Ok-Read-clause-over : goal.returns-in-Ok-Read-clause-over
+returns-in-Ok-Read-clause-over g c = λ is_ready given none.
+    let s = c.self.inside in
+    let d : DeviceState = record { store = s.store; shape = s.shape; tasks = s.tasks.items; held = s.held.items; counts = s.counts } in
+    let n : DeviceState = record { store = c.collect_step.new.self; shape = s.shape; tasks = s.tasks.items; held = s.held.items; counts = s.counts } in
+    let ready : d.store.phase ≡ Ready = sym c.phase.ensures.phase ∙ c.in-Ready.is in
+    let is : IsCollecting d n = record { ready = ready; standing = c.phase.ensures.stands; same = c.collect_step.ensures.same; shape = refl; tasks = refl; held = refl } in
+    collected_over d n is ReadPage (subst (λ (m : Moved). IsCollected d.store m n.store) c.in-Ok-Read.field-0-is (c.in-Ok-Read.ensures.moved ready)) none
+
+pub returns-in-Ok-Page-clause-over : goal.returns-in-Ok-Page-clause-over
+returns-in-Ok-Page-clause-over g c = λ is_ready given none.
+    let s = c.self.inside in
+    let d : DeviceState = record { store = s.store; shape = s.shape; tasks = s.tasks.items; held = s.held.items; counts = s.counts } in
+    let n : DeviceState = record { store = c.collect_step.new.self; shape = s.shape; tasks = s.tasks.items; held = s.held.items; counts = c.after_moved-self-inside.result } in
+    let ready : d.store.phase ≡ Ready = sym c.phase.ensures.phase ∙ c.in-Ready.is in
+    let is : IsCollecting d n = record { ready = ready; standing = c.phase.ensures.stands; same = c.collect_step.ensures.same; shape = refl; tasks = refl; held = refl } in
+    collected_over d n is (MovedPage c.in-Ok-Page.lun c.in-Ok-Page.lba) (subst (λ (m : Moved). IsCollected d.store m n.store) c.in-Ok-Page.field-0-is (c.in-Ok-Page.ensures.moved ready)) none
+
+pub returns-in-Ok-Erased-clause-over : goal.returns-in-Ok-Erased-clause-over
+returns-in-Ok-Erased-clause-over g c = λ is_ready given none.
+    let s = c.self.inside in
+    let d : DeviceState = record { store = s.store; shape = s.shape; tasks = s.tasks.items; held = s.held.items; counts = s.counts } in
+    let n : DeviceState = record { store = c.collect_step.new.self; shape = s.shape; tasks = s.tasks.items; held = s.held.items; counts = c.after_moved-self-inside-in-Ok-Erased.result } in
+    let ready : d.store.phase ≡ Ready = sym c.phase.ensures.phase ∙ c.in-Ready.is in
+    let is : IsCollecting d n = record { ready = ready; standing = c.phase.ensures.stands; same = c.collect_step.ensures.same; shape = refl; tasks = refl; held = refl } in
+    collected_over d n is (ErasedBlock c.in-Ok-Erased.block) (subst (λ (m : Moved). IsCollected d.store m n.store) c.in-Ok-Erased.field-0-is (c.in-Ok-Erased.ensures.moved ready)) none

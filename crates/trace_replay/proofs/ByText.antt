@@ -1,6 +1,6 @@
 -- The status of a run is that of its text, where no call of the source or the sink failed.
-use Rattle.std.proofs.Common.{◌≡◌, ◌⊎◌, ℕ, suc, ◌+◌, ◌<◌, ◌≤◌, Bool, true, false, ◌&&◌, nat_le, nat_lt, List, [], ◌∷◌, ◌++◌, length, Option, Some, None, refl, sym, ◌∙◌, ap, subst, arith, inl, inr, length-append}
-use Rattle.std.specs.Prelude.{is_some, map, if◌then◌else◌, ◌==◌}
+use Rattle.std.proofs.Common.{◌≡◌, ℕ, suc, ◌+◌, ◌<◌, ◌≤◌, Bool, true, false, ◌&&◌, nat_le, nat_lt, List, [], ◌∷◌, ◌++◌, length, Option, Some, None, refl, sym, ◌∙◌, ap, subst, arith, inl, inr, length-append}
+use Rattle.std.specs.Prelude.{is_some, map, ◌==◌}
 use Rattle.std.specs.List.{AllByRecursion, prefix_len}
 use Rattle.std.proofs.lemmas.Bool.{le-leb}
 use Rattle.std.proofs.lemmas.Bool.Decides.{nat_tests}
@@ -10,9 +10,8 @@ use Rattle.trace_text.specs.Lines.{BeginsLong, EndsAt, IsLine, TakesLine, WhereT
 use Rattle.trace_text.specs.Shown.{shown_line}
 use Rattle.trace_text.proofs.LinesOf.{lines_of-long, lines_of-none, lines_of-takes}
 use Rattle.trace_replay.specs.ByText.{is_shown_line, is_trace_line, status_by, status_of}
-use Rattle.trace_replay.specs.Run.{HasMore, IsBadNext, IsLong, TakesLines}
+use Rattle.trace_replay.specs.Run.{HasMore, IsBadNext, TakesLines}
 use Rattle.trace_replay.specs.Showing.{IsUnshown}
-use Rattle.trace_replay.specs.declared.status.Status.{Status}
 use Rattle.trace_replay.specs.declared.status.Status.TheVariants.{Done, BadLine, LongTrace}
 
 -- the lines that were taken of a told text are its first ones

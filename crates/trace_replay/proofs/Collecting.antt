@@ -12,36 +12,34 @@ use Rattle.flash_pages.specs.declared.chip.ChipOp.{ChipOp}
 use Rattle.flash_pages.specs.Chip.{Page}
 use Rattle.flash_pages.specs.Place.{Place}
 use Rattle.flash_store.specs.declared.answers.Phase.TheVariants.{Ready}
-use Rattle.flash_store.specs.Store.{IsSame, StoreState}
 use Rattle.flat_unit.specs.declared.event.Event.{Event}
 use Rattle.flat_unit.specs.declared.event.Event.TheVariants.{Moved, Failed}
 use Rattle.flat_unit.specs.History.{History, followed_by}
 use Rattle.flat_unit.specs.Print.{print, line_of}
-use Rattle.flat_unit.specs.Replays.{OpenRun, Progress, IsCollection, Collects, LineTo, collected_to, events_of, failed_events, moved_events, is_failure, with_run, without_writes}
+use Rattle.flat_unit.specs.Replays.{OpenRun, Progress, IsCollection, LineTo, collected_to, events_of, failed_events, moved_events, is_failure, with_run, without_writes}
 use Rattle.flat_unit.specs.Sizes.{Sizes}
 use Rattle.flat_unit.specs.Stands.{First}
 use Rattle.flat_unit.specs.Trace.{Collect}
 use Rattle.flat_unit.specs.Writes.{moves}
 use Rattle.flat_unit.proofs.History.{failures_are-followed_by}
 use Rattle.hpb_device.specs.declared.device.Stepped.{Stepped}
-use Rattle.hpb_device.specs.declared.task.Task.{Task as Kept}
 use Rattle.hpb_device.specs.Advance.{IsSameStore}
 use Rattle.hpb_device.specs.Calls.{CollectsOn, uncollected_in}
 use Rattle.hpb_device.specs.Entries.{EntriesStand}
-use Rattle.hpb_device.specs.Left.{KeepsNoWrite, steps_left, unscanned}
+use Rattle.hpb_device.specs.Left.{KeepsNoWrite, steps_left}
 use Rattle.hpb_device.specs.Limits.{limits_of}
 use Rattle.hpb_device.specs.Listed.{ListingStands}
 use Rattle.hpb_device.specs.Sizes.{sizes}
 use Rattle.hpb_device.specs.Standing.{DeviceStands, DeviceStandsForeign, first_of, group_of, sizes_of}
-use Rattle.hpb_device.specs.State.{DeviceState, AreAtRest, AtRest}
+use Rattle.hpb_device.specs.State.{DeviceState, AreAtRest}
 use Rattle.hpb_device.specs.Task.{WasSilent}
 use Rattle.hpb_device.proofs.Collecting.{collect_fails, collect_moves_counted, collect_sends_none, collect_steps_counted}
-use Rattle.trace_replay.specs.Moments.{ForeignStanding, HasCollected, LacksEnough, Leads, Cuts, CutLineTo, OwnStanding, Standing, pages_in}
-use Rattle.trace_replay.specs.Transcript.{HasNoMore, SendsUnready, has_page}
+use Rattle.trace_replay.specs.Moments.{HasCollected, LacksEnough, Leads, Cuts, CutLineTo, Standing, pages_in}
+use Rattle.trace_replay.specs.Transcript.{HasNoMore, has_page}
 use Rattle.trace_replay.specs.Writes.{AppendsFront, HasWrittenUpTo}
 use Rattle.trace_replay.proofs.Counts.{fails_in, followed_by-more, moves-followed_by, unready_group}
-use Rattle.trace_replay.proofs.Plain.{IsPlainUpiu, place_of_step, plain_group}
-use Rattle.trace_replay.proofs.Standing.{all_weaker, events_gathered, not_sent, run_standing, same_since, with_runs}
+use Rattle.trace_replay.proofs.Plain.{place_of_step, plain_group}
+use Rattle.trace_replay.proofs.Standing.{events_gathered, run_standing, same_since, with_runs}
 
 -- a call of `collect` that had something to do
 pub record Calling (old new : DeviceState) (r : Stepped) : Type 0 where
@@ -86,11 +84,13 @@ kept_runs P test (run ∷ runs) all = by_test (test run) (kept_runs P test runs 
 still_lacks : (old new : DeviceState) (r : Stepped) (runs : List OpenRun) → Calling old new r → Writeless runs → AllByRecursion (LacksEnough old) runs → AllByRecursion (LacksEnough new) runs
 still_lacks old new r [] call none lacks = tt
 still_lacks old new r (run ∷ runs) call none lacks =
-    let no_write = lacks.0.writes none.0 in
-    (record {
-      enough = λ going. let few = lacks.0.enough (λ rests. going (subst AreAtRest (sym call.calls.tasks) rests)) in let same = call.left no_write in omega (arith, few, same);
-      writes = λ is. subst KeepsNoWrite (sym call.calls.tasks) (lacks.0.writes is);
-    }, still_lacks old new r runs call none.1 lacks.1)
+    let no_write = lacks.0.writes none.0 in (
+      record {
+        enough = λ going. let few = lacks.0.enough (λ rests. going (subst AreAtRest (sym call.calls.tasks) rests)) in let same = call.left no_write in omega (arith, few, same);
+        writes = λ is. subst KeepsNoWrite (sym call.calls.tasks) (lacks.0.writes is);
+      },
+      still_lacks old new r runs call none.1 lacks.1,
+    )
 
 -- how many calls there were since one of another kind, or since one that failed
 abbrev Counts : Progress → Stepped → ℕ → Type 0

@@ -1,5 +1,5 @@
 -- What a replay counts over the events of one more call.
-use Rattle.std.proofs.Common.{◌≡◌, ℕ, ◌+◌, Bool, true, false, not, List, [], ◌∷◌, ◌++◌, Option, Some, None, refl, sym, ◌∙◌, ap, subst, arith}
+use Rattle.std.proofs.Common.{◌≡◌, ℕ, ◌+◌, true, not, List, [], ◌∷◌, ◌++◌, Option, Some, None, refl, sym, ◌∙◌, ap, subst, arith}
 use Rattle.std.specs.Prelude.{is_some}
 use Rattle.std.specs.List.{list_any}
 use Rattle.std.proofs.lemmas.Bool.{false≢true}
@@ -9,7 +9,7 @@ use Rattle.flat_unit.specs.declared.event.Event.{Event}
 use Rattle.flat_unit.specs.declared.event.Event.TheVariants.{Host, Device, Reset, Moved, Failed, Cleared, Switched, Gone}
 use Rattle.flat_unit.specs.Causes.{sense_code}
 use Rattle.flat_unit.specs.History.{History, ◌▹◌, followed_by}
-use Rattle.flat_unit.specs.Replays.{IsCollection, events_of, failed_events, is_failure, is_unready, moved_events, serves}
+use Rattle.flat_unit.specs.Replays.{events_of, failed_events, is_failure, is_unready, moved_events, serves}
 use Rattle.flat_unit.specs.Sizes.{Sizes}
 use Rattle.flat_unit.specs.Sound.{owed}
 use Rattle.flat_unit.specs.Writes.{moves}

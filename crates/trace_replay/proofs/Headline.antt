@@ -1,5 +1,5 @@
 -- The sentences of the headline follow from what a run promises.
-use Rattle.std.proofs.Common.{◌≡◌, ◌⊎◌, ℕ, ◌+◌, Bool, List, [], ◌∷◌, ◌++◌, Option, Some, None, refl, sym, subst, inl, inr}
+use Rattle.std.proofs.Common.{◌≡◌, ◌⊎◌, ℕ, ◌+◌, List, [], ◌++◌, Option, Some, refl, sym, subst, inl, inr}
 use Rattle.std.proofs.lemmas.List.{append-nil}
 use Rattle.std.specs.Io.KnownBytes.{Appends}
 use Rattle.hpb_outside.specs.Faults.{Rose}
@@ -11,7 +11,7 @@ use Rattle.flat_unit.specs.Replays.{Progress}
 use Rattle.flat_unit.specs.Sizes.{Sizes}
 use Rattle.flat_unit.proofs.contents.ReadsEnd.{reads_allowed, reads_end_well}
 use Rattle.trace_replay.specs.ByText.{is_shown_line, is_trace_line, status_of}
-use Rattle.trace_replay.specs.Headline.{AreLastWords, DrainsAll, EndsByText, IsWritten, Tells}
+use Rattle.trace_replay.specs.Headline.{AreLastWords, DrainsAll, EndsByText, Tells}
 use Rattle.hpb_device.specs.declared.counts.Counts.{Counts}
 use Rattle.flash_pages.specs.Chip.{Page}
 use Rattle.trace_replay.specs.Run.{IsCutShort, IsPlanned, ProgramIs, RunIs, SinkEnds, SourceEnds, bad_line_text, counts_text, long_text}

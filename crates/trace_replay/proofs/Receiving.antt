@@ -1,5 +1,5 @@
 -- What UPIUs of the host and resets lead to.
-use Rattle.std.proofs.Common.{◌≡◌, ℕ, ◌+◌, ◌-◌, ◌*◌, ◌^◌, ◌≤◌, min, Bool, true, false, ◌&&◌, List, [], ◌∷◌, ◌++◌, length, Option, refl, sym, ◌∙◌, ap, subst, arith, inl, inr}
+use Rattle.std.proofs.Common.{◌≡◌, ℕ, ◌-◌, ◌*◌, ◌^◌, ◌≤◌, min, Bool, true, false, ◌&&◌, List, ◌∷◌, ◌++◌, length, Option, refl, sym, ◌∙◌, ap, subst, arith, inl, inr}
 use Rattle.std.proofs.lemmas.Bool.{false≢true}
 use Rattle.std.proofs.lemmas.List.{append_assoc, append-nil}
 use Rattle.std.specs.Prelude.{flat_map}
@@ -33,7 +33,7 @@ use Rattle.hpb_device.specs.State.{DeviceState}
 use Rattle.hpb_device.specs.Task.{WasSilent}
 use Rattle.hpb_device.proofs.Silence.{received_was_silent}
 use Rattle.trace_replay.specs.Moments.{Leads, OwnStanding, Standing, pages_in}
-use Rattle.trace_replay.specs.Transcript.{IsPlain, IsUnready, SendsUnready, has_page}
+use Rattle.trace_replay.specs.Transcript.{IsUnready, SendsUnready, has_page}
 use Rattle.trace_replay.specs.Writes.{HasWrittenUpTo}
 use Rattle.trace_replay.proofs.Plain.{IsPlainUpiu, plain_answer, plain_host, plain_reset}
 use Rattle.trace_replay.proofs.Standing.{events_gathered, tracked}

@@ -1,8 +1,8 @@
 -- A step of the device leads from where it stands to where it stands then.
-use Rattle.std.proofs.Common.{◌≡◌, ◌⊎◌, ℕ, suc, ◌+◌, ◌-◌, ◌*◌, ◌^◌, ◌<◌, ◌≤◌, min, Bool, true, false, not, ◌&&◌, ◌||◌, nat_le, List, [], ◌∷◌, ◌++◌, length, Option, Some, None, refl, sym, ◌∙◌, ap, subst, arith, inl, inr}
+use Rattle.std.proofs.Common.{◌≡◌, ◌⊎◌, ℕ, ◌+◌, ◌-◌, ◌^◌, ◌<◌, ◌≤◌, min, Bool, true, false, not, ◌&&◌, ◌||◌, nat_le, List, [], ◌∷◌, ◌++◌, length, Option, Some, None, refl, sym, ◌∙◌, ap, subst, arith, inl, inr}
 use Rattle.std.proofs.lemmas.Bool.{cases_lt, false≢true}
 use Rattle.std.proofs.lemmas.Bool.Decides.{nat_tests}
-use Rattle.std.specs.Prelude.{flat_map, is_none, is_some, map, IsTrue, if◌then◌else◌}
+use Rattle.std.specs.Prelude.{flat_map, is_none, is_some, IsTrue, if◌then◌else◌}
 use Rattle.std.specs.Bool.{OnFalse}
 use Rattle.std.specs.List.{AllByRecursion}
 use Rattle.flat_unit.specs.declared.event.Event.{Event}
@@ -26,7 +26,7 @@ use Rattle.flash_store.specs.declared.answers.Phase.TheVariants.{Scanning, Ready
 use Rattle.flash_store.specs.Store.{StoreState}
 use Rattle.hpb_device.specs.Advance.{IsSameStore}
 use Rattle.hpb_device.specs.Calls.{GoesOn, LeavesFewer, StepsIn}
-use Rattle.hpb_device.specs.Left.{KeepsNoWrite, steps_left, unscanned}
+use Rattle.hpb_device.specs.Left.{steps_left, unscanned}
 use Rattle.hpb_device.specs.Task.{WasSilent, tries_entry}
 use Rattle.hpb_device.proofs.Silence.{going_was_silent, tries_has_entry, tries_was_silent}
 use Rattle.hpb_device.specs.Keeps.{KeepsTasks}
@@ -362,10 +362,13 @@ with_runs start now p runs at lacking = record {
 pub run_standing : (start now : DeviceState) (p : Progress) → Standing start now p → Standing start now (with_run (sizes_of start) p)
 run_standing start now p at =
     let t = tracked start now p at in
-    with_runs start now p (with_run (sizes_of start) p).runs at (record {
-      enough = λ going. few_steps start now p at;
-      writes = λ none. keeps_no_write now.tasks now.held t.tasks t.keeps (ap keeps_write (sym t.kept) ∙ none);
-    }, at.lacking)
+    with_runs start now p (with_run (sizes_of start) p).runs at (
+      record {
+        enough = λ going. few_steps start now p at;
+        writes = λ none. keeps_no_write now.tasks now.held t.tasks t.keeps (ap keeps_write (sym t.kept) ∙ none);
+      },
+      at.lacking,
+    )
 
 -- a blank line begins a run
 pub blank_leads : (start now : DeviceState) (before w : Option (List ℕ)) (gathered : List ℕ) (p : Progress) → Standing start now p → HasWrittenUpTo before w (print p.events) gathered

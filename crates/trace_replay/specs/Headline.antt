@@ -1,6 +1,5 @@
 -- The sentences of the headline, of the events whose text a run has written.
 use Rattle.std.specs.Prelude.{◌≡◌, ◌⊎◌, ℕ, Bool, List, [], ◌++◌, map, Option, Some}
-use Rattle.flash_pages.specs.declared.chip.Geometry.{Geometry}
 use Rattle.hpb_outside.specs.Faults.{Rose}
 use Rattle.flat_unit.specs.History.{History}
 use Rattle.flat_unit.specs.Print.{print}

@@ -1,5 +1,5 @@
 -- Where a device and a text stand while a trace is replayed.
-use Rattle.std.specs.Prelude.{⊤, ◌≡◌, ◌⊎◌, ℕ, ◌+◌, ◌-◌, ◌*◌, ◌^◌, ◌<◌, ◌≤◌, true, false, min, List, Option, Result, MatchResult}
+use Rattle.std.specs.Prelude.{◌≡◌, ◌⊎◌, ℕ, ◌+◌, ◌-◌, ◌*◌, ◌^◌, ◌<◌, ◌≤◌, true, false, min, List, Option, Result, MatchResult}
 use Rattle.std.specs.List.{AllByRecursion}
 use Rattle.flash_store.specs.declared.answers.Phase.TheVariants.{Ready}
 use Rattle.flat_unit.specs.Causes.{FailuresAre}

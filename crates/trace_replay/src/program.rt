@@ -227,11 +227,7 @@ fn replay<S: Source, K: Sink, F: Flash>(
 }
 
 /// Ends a trace that was taken whole with what the device has counted.
-fn end_of_trace<K: Sink, F: Flash>(
-    device: &Device<F>,
-    output: &mut Output,
-    sink: &mut K,
-) -> Status
+fn end_of_trace<K: Sink, F: Flash>(device: &Device<F>, output: &mut Output, sink: &mut K) -> Status
     ensures ends { Finishes (K.written sink.old) (K.written sink.new) output.old (counts_text device.now.counts) (K.faults sink.old) (K.faults sink.new)
         Status.Done result }
 {

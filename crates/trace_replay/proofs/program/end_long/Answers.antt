@@ -1,10 +1,10 @@
-use Rattle.std.proofs.Common.{◌≡◌, ◌++◌, ◌≤◌, ℕ, [], refl, sym, ap, subst, rules, inl, arith, ◌∙◌, ◌⊎◌, inr}
+use Rattle.std.proofs.Common.{◌≡◌, ◌++◌, ℕ, [], refl, sym, ap, subst, rules, inl, arith, ◌∙◌, ◌⊎◌, inr}
 use Rattle.trace_text.specs.Lines.{IsWithinLine, ReaderState}
 use Rattle.trace_text.proofs.LinesOf.{within-nil}
 use Rattle.trace_replay.specs.Run.{SinkEnds, long_text}
 use Rattle.trace_replay.specs.declared.status.Status.{Status}
 use Rattle.trace_replay.specs.declared.status.Status.TheVariants.{Done, LongTrace, WriteFault}
-use Rattle.trace_replay.proofs.Runs.{ends_wordless, front_wordless, last_long, last_since, more_of, sink_ended, source_ended}
+use Rattle.trace_replay.proofs.Runs.{ends_wordless, front_wordless, last_long, more_of, sink_ended, source_ended}
 use Rattle.trace_replay.proofs.Written.{cut_of, whole_of, flushed, gathers_more, nothing_yet, up_to_end}
 use Rattle.trace_replay.specs.Writes.{HasWrittenUpTo}
 use Rattle.trace_replay.proofs.program.end_long.Goals as goal

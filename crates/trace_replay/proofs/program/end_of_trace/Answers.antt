@@ -1,4 +1,4 @@
-use Rattle.std.proofs.Common.{◌≡◌, ◌++◌, ◌≤◌, ◌+◌, refl, inr, rules}
+use Rattle.std.proofs.Common.{◌≡◌, ◌++◌, refl, inr, rules}
 use Rattle.trace_replay.specs.Run.{CountsFault, counts_text}
 use Rattle.trace_replay.specs.Writes.{HasWrittenUpTo}
 use Rattle.trace_replay.proofs.Runs.{ends_wordless, front_longer, last_since}

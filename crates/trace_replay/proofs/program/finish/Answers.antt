@@ -1,4 +1,4 @@
-use Rattle.std.proofs.Common.{refl, rules, inl, inr}
+use Rattle.std.proofs.Common.{refl, rules, inr}
 use Rattle.trace_replay.proofs.Runs.{front_wordless}
 use Rattle.trace_replay.proofs.Written.{cut_of, flushed}
 use Rattle.trace_replay.proofs.program.finish.Goals as goal

@@ -2,7 +2,6 @@ use Rattle.std.proofs.Common.{◌≡◌, ◌<◌, ◌≤◌, ℕ, None, refl, sy
 use Rattle.std.proofs.lemmas.Bool.{false≢true}
 use Rattle.trace_text.specs.Lines.{ReaderState}
 use Rattle.flat_unit.specs.Print.{print}
-use Rattle.std.specs.Io.KnownBytes.{prepend_known}
 use Rattle.trace_replay.specs.Run.{CountsFault, SinkEnds, SourceEnds}
 use Rattle.trace_replay.specs.declared.status.Status.TheVariants.{Done, BadLine}
 use Rattle.trace_replay.proofs.Runs.{ran_begins, ran_more, ends_done, ends_unread, ends_bad, ends_last, ends_unwritten, sink_ended, source_ended}

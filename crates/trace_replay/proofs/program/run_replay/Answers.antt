@@ -1,4 +1,4 @@
-use Rattle.std.proofs.Common.{◌≡◌, ◌≤◌, ◌∙◌, ap, arith, refl, sym}
+use Rattle.std.proofs.Common.{◌∙◌, ap, arith, refl, sym}
 use Rattle.trace_text.specs.Lines.{ReaderState}
 use Rattle.region_state.specs.declared.shape.Shape.{Shape}
 use Rattle.trace_replay.specs.Words.{named_unit}

@@ -1,4 +1,4 @@
-use Rattle.std.proofs.Common.{ℕ, ◌+◌, ◌<◌, ◌≤◌, ◌^◌, ◌++◌, ◌≡◌, length, arith, rules, ap, ◌∙◌}
+use Rattle.std.proofs.Common.{◌<◌, ◌^◌, length, arith, rules, ap, ◌∙◌}
 use Rattle.std.proofs.lemmas.List.{length-append}
 use Rattle.flat_unit.specs.declared.event.Event.TheVariants.{Moved}
 use Rattle.flat_unit.specs.Print.{line_of}

@@ -42,8 +42,8 @@ returns-in-Upiu-clause-serves g c start before p at printed =
       room = λ sends. (subst IsBytes c.bytes.ensures.value c.push_upiu-in-Upiu.ensures.bytes, subst (λ (l : List ℕ). length l ≤ 4128) c.bytes.ensures.value c.bytes.ensures.fits);
     } in
     let whole = c.in_ok-make_room.ensures.text before (print p.events) printed in
-      received_leads start c.args.device.now c.receive-sent.new.self before _ _ c.push_upiu.new.self c.push_upiu-in-Upiu.new.self c.args.bytes.now c.receive-sent.new.out c.receive-sent.result p
-          at got whole c.push_upiu.ensures.text (λ sends. search rules) (λ none. absurd (upiu_not_nothing (sym c.in-Upiu.is ∙ none)))
+    received_leads start c.args.device.now c.receive-sent.new.self before _ _ c.push_upiu.new.self c.push_upiu-in-Upiu.new.self c.args.bytes.now c.receive-sent.new.out c.receive-sent.result p
+    at got whole c.push_upiu.ensures.text (λ sends. search rules) (λ none. absurd (upiu_not_nothing (sym c.in-Upiu.is ∙ none)))
 
 pub returns-in_default-clause-serves : goal.returns-in_default-clause-serves
 returns-in_default-clause-serves g c start before p at printed =
@@ -62,8 +62,8 @@ returns-in_default-clause-serves g c start before p at printed =
       room = λ sends. absurd (c.in_default.not-Upiu sends);
     } in
     let whole = c.in_ok-make_room.ensures.text before (print p.events) printed in
-      received_leads start c.args.device.now c.receive-sent.new.self before _ _ c.push_upiu.new.self c.push_upiu.new.self c.args.bytes.now c.receive-sent.new.out c.receive-sent.result p
-          at got whole c.push_upiu.ensures.text (λ sends. absurd (c.in_default.not-Upiu sends)) (λ none. refl)
+    received_leads start c.args.device.now c.receive-sent.new.self before _ _ c.push_upiu.new.self c.push_upiu.new.self c.args.bytes.now c.receive-sent.new.out c.receive-sent.result p
+    at got whole c.push_upiu.ensures.text (λ sends. absurd (c.in_default.not-Upiu sends)) (λ none. refl)
 
 pub returns-in_err-make_room-clause-grows : goal.returns-in_err-make_room-clause-grows
 returns-in_err-make_room-clause-grows g c = keeps_grows _ _ _ _ c.make_room.result c.make_room.ensures.text

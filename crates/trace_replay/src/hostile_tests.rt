@@ -1,5 +1,6 @@
 //! Hosts and chips that do what they shouldn't: whole runs, whose transcripts are judged by `oracle`.
 use super::*;
+use crate::oracle::counts::Counts;
 use crate::oracle::{Sizes, Verdict, judge};
 use crate::tests::{Outside, run_words};
 use crate::texts::push_words;
@@ -27,6 +28,8 @@ const CHIP: Chip = Chip {
         luns: 1,
         units: 20,
         pages: 32,
+        block_pages: 4,
+        is_sound: true,
     },
 };
 
@@ -40,6 +43,8 @@ const SMALL_CHIP: Chip = Chip {
         luns: 1,
         units: 4,
         pages: 10,
+        block_pages: 2,
+        is_sound: true,
     },
 };
 
@@ -85,7 +90,7 @@ const BEHIND_PRINTED: [&str; 7] = [
 ];
 
 /// Adds lines of words to a text.
-fn push_lines(text: &mut Vec<u8>, lines: &[&str]) -> Result<(), Fail> {
+pub fn push_lines(text: &mut Vec<u8>, lines: &[&str]) -> Result<(), Fail> {
     for line in lines.iter().copied() {
         push_words(text, line)?;
         text.push(b'\n')?;
@@ -99,18 +104,18 @@ fn text_of(alloc: Global, lines: &[&str]) -> Result<Vec<u8>, Fail> {
     Ok(text)
 }
 
-/// How a run ended, the events that it printed, and what is found of them: the steps are how many they show at least.
+/// How a run ended, the events that it printed, what is found of them, and what it counted where the trace was taken whole.
 #[derive(Drop)]
-struct Ran {
+pub struct Ran {
     status: Status,
-    text: Vec<u8>,
-    verdict: Verdict,
-    steps: u64,
+    pub text: Vec<u8>,
+    pub verdict: Verdict,
+    pub counts: Option<Counts>,
 }
 
 impl Ran {
     /// Whether the trace was served to its end, where all is done that can be done without the host.
-    fn is_served(&self) -> bool {
+    pub fn is_served(&self) -> bool {
         match self.status {
             Status::Done => self.verdict == Verdict::Sound { rests: true },
             _ => false,
@@ -121,14 +126,22 @@ impl Ran {
         matches!(&self.verdict, Verdict::Sound { .. })
     }
 
-    /// The lines that it printed.
+    /// The lines of its events.
     fn lines(&self) -> usize {
         self.text.iter().filter(|byte| **byte == b'\n').count()
+    }
+
+    /// The steps that it counted.
+    fn steps(&self) -> u64 {
+        match self.counts {
+            Some(counts) => counts.steps,
+            None => 0,
+        }
     }
 }
 
 /// Replays a trace over a chip, of whose calls those with these numbers fail.
-fn replay(alloc: Global, trace: &[u8], calls: &[u64]) -> Result<Ran, Fail> {
+pub fn replay(alloc: Global, trace: &[u8], calls: &[u64]) -> Result<Ran, Fail> {
     replay_over(alloc, CHIP, trace, calls)
 }
 
@@ -144,13 +157,35 @@ fn replay_over(alloc: Global, chip: Chip, trace: &[u8], calls: &[u64]) -> Result
     let Some(text) = ran.printed.strip_suffix(end.as_bytes()) else {
         return Err(Fail::new("the last line isn't that of the status"));
     };
-    let (verdict, steps) = judge(alloc, chip.sizes, text)?;
+    let (verdict, counts) = judge(alloc, chip.sizes, text)?;
+    if matches!(ran.status, Status::Done)
+        && matches!(verdict, Verdict::Sound { .. })
+        && counts.is_none()
+    {
+        return Err(Fail::new("nothing is counted"));
+    }
+    let events = if counts.is_some() {
+        without_last_line(text)
+    } else {
+        text
+    };
     Ok(Ran {
         status: ran.status,
-        text: text.to_vec(alloc)?,
+        text: events.to_vec(alloc)?,
         verdict,
-        steps,
+        counts,
     })
+}
+
+/// A text without its last line.
+fn without_last_line(text: &[u8]) -> &[u8] {
+    let lines = text.strip_suffix(b"\n").unwrap_or(text);
+    let last = lines
+        .iter()
+        .rev()
+        .take_while(|byte| **byte != b'\n')
+        .count();
+    text.get(..lines.len().saturating_sub(last)).unwrap_or(text)
 }
 
 /// Where a line of a text begins.
@@ -264,7 +299,7 @@ fn steps_print_what_a_drain_prints(rt: HostRuntime) -> Result<(), Fail> {
             )?;
             assert!(rt; ran.is_sound(), "{count} steps");
             assert!(rt;
-                ran.steps <= u64::from(count).saturating_mul(3),
+                ran.steps() <= u64::from(count).saturating_mul(3),
                 "{count} steps"
             );
         }
@@ -531,11 +566,37 @@ fn push_command(
     push_lines(text, &[words.as_str()])
 }
 
+/// Adds HPB READ of some blocks, with an entry that may be one of the chip.
+fn push_read_by_entry(text: &mut Vec<u8>, alloc: Global, dice: &mut Dice) -> Result<(), Fail> {
+    let (tag, lba, n, entry) = (dice.tag(), dice.roll(6), dice.roll(4), dice.roll(36));
+    let expected = n.saturating_mul(4096);
+    let words = format!(in alloc;
+        "U 014000{tag:02x} z z {expected:08x} f800{lba:08x}{entry:016x}{n:02x}00"
+    )?;
+    push_lines(text, &[words.as_str()])
+}
+
+/// Adds READ BUFFER of all blocks, or of some.
+fn push_list(text: &mut Vec<u8>, alloc: Global, dice: &mut Dice) -> Result<(), Fail> {
+    let (tag, bytes) = (dice.tag(), dice.roll(161));
+    let words = format!(in alloc; "U 014000{tag:02x} z z 000000a0 f9010000 z {bytes:02x}000000 z")?;
+    push_lines(text, &[words.as_str()])
+}
+
+/// Adds steps, calls of the collector, or a reset.
+fn push_calls(text: &mut Vec<u8>, dice: &mut Dice) -> Result<(), Fail> {
+    let calls = [
+        "S 1", "S 2", "S 40", "C 1", "C 2", "C 3", "C 20", "D", "D", "R",
+    ];
+    let call = calls.get(dice.roll(10) as usize).copied().unwrap_or("D");
+    push_lines(text, &[call])
+}
+
 /// Adds a few lines that a host might send.
 fn push_throw(text: &mut Vec<u8>, alloc: Global, dice: &mut Dice) -> Result<(), Fail> {
     let tag = dice.tag();
     let n = (dice.roll(4) & 3) as u16;
-    match dice.roll(8) {
+    match dice.roll(13) {
         0 | 1 => {
             push_command(text, alloc, dice, "2a", tag, n)?;
             push_lines(text, &["D"])?;
@@ -554,8 +615,9 @@ fn push_throw(text: &mut Vec<u8>, alloc: Global, dice: &mut Dice) -> Result<(), 
             let opcode = opcodes.get(dice.roll(5) as usize).copied().unwrap_or("00");
             push_command(text, alloc, dice, opcode, tag, n)
         }
-        6 => push_lines(text, &["D"]),
-        _ => push_lines(text, &["S 1"]),
+        6 => push_list(text, alloc, dice),
+        7 | 8 => push_read_by_entry(text, alloc, dice),
+        _ => push_calls(text, dice),
     }
 }
 
@@ -564,7 +626,7 @@ fn storms_leave_sound_transcripts(rt: HostRuntime) -> Result<(), Fail> {
     for seed in 0..40u64 {
         let mut dice = Dice(seed);
         let mut trace = Vec::new(rt.alloc());
-        for _throw in 0..60u32 {
+        for _throw in 0..80u32 {
             push_throw(&mut trace, rt.alloc(), &mut dice)?;
         }
         push_lines(&mut trace, &["D"])?;

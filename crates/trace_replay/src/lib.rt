@@ -15,11 +15,15 @@ pub use status::{Outcome, Status};
 pub use words::chip_of;
 
 #[cfg(test)]
+mod chip_tests;
+#[cfg(test)]
 mod hostile_tests;
 #[cfg(test)]
 mod oracle;
 #[cfg(test)]
 mod row_tests;
+#[cfg(test)]
+mod schedule_tests;
 #[cfg(test)]
 mod tests;
 #[cfg(test)]

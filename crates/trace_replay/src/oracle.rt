@@ -1,10 +1,14 @@
 //! A checker of transcripts. It reads the bytes at their places by itself, and keeps its own tasks and blocks, so that it
 //! shares nothing with the device that it judges.
-use crate::texts::push_words;
 use hpb_outside::NoMemory;
 use std::alloc::{AllocError, AllocFailed, Global};
 use std::collections::VecDeque;
 use std::test::Fail;
+
+pub mod counts;
+mod judged;
+
+use counts::{Counts, Seen, read_counts};
 
 /// The bytes of a block, and of what a READY TO TRANSFER asks for at most.
 const BLOCK: usize = 4096;
@@ -36,7 +40,7 @@ const UNPROGRAMMED: (u8, u8) = (0x3, 0x0C);
 
 const NO_NUMBER: (u8, u8) = (0x7, 0x27);
 
-const UNSCANNED: (u8, u8) = (0x4, 0x44);
+const UNREADY: (u8, u8) = (0x4, 0x44);
 
 const UNKNOWN_OPCODE: (u8, u8) = (0x5, 0x20);
 
@@ -48,12 +52,15 @@ const NO_UNIT: (u8, u8) = (0x5, 0x25);
 
 const WRONG_DATA: (u8, u8) = (0xB, 0x4B);
 
-/// The sizes of a device: its logical units, the blocks of each, which are zeros at first, and the pages of its chip.
+/// The sizes of a device: its logical units, the blocks of each, the pages of its chip and of an erase block. The chip is
+/// erased at first, or it is one that no device leaves behind.
 #[derive(Clone, Copy)]
 pub struct Sizes {
     pub luns: u8,
     pub units: u32,
     pub pages: u32,
+    pub block_pages: u32,
+    pub is_sound: bool,
 }
 
 /// What is wrong with a line of a transcript.
@@ -67,10 +74,14 @@ pub enum Why {
     Sent,
     /// Its place can't have this block.
     Block,
+    /// Its place can't have this entry.
+    Entry,
     /// The collector can't have moved this block.
     Moved,
     /// Nothing caused the sense.
     Cause,
+    /// So much can't have been counted.
+    Counts,
 }
 
 /// What was found of a transcript.
@@ -84,7 +95,7 @@ pub enum Verdict {
 
 /// What ends a check.
 #[derive(Clone, Copy, Debug)]
-enum Stop {
+pub enum Stop {
     Bad(Why),
     Memory,
 }
@@ -113,25 +124,48 @@ enum Call {
 enum Command {
     TestReady,
     Capacity,
-    Sync { lba: u32, n: u16 },
-    Read { lba: u32, n: u16 },
-    Write { lba: u32, n: u16 },
-    /// READ BUFFER, by the bytes that it sends.
-    List { given: u32 },
+    Sync {
+        lba: u32,
+        n: u16,
+    },
+    /// READ(10), or HPB READ with the entry of its first block.
+    Read {
+        lba: u32,
+        n: u16,
+        entry: Option<u64>,
+    },
+    Write {
+        lba: u32,
+        n: u16,
+    },
+    /// READ BUFFER, by its first block and the bytes that it sends.
+    List {
+        lba: u32,
+        given: u32,
+    },
 }
 
 impl Command {
     /// The command of a CDB, or the sense that refuses it.
     fn of(cdb: &[u8], units: u32) -> Result<Command, (u8, u8)> {
+        let opcode = byte(cdb, 0);
         let lba = number(cdb, 2, 4);
-        let n = (number(cdb, 7, 2) & 0xFFFF) as u16;
-        let command = match byte(cdb, 0) {
+        let n = match opcode {
+            0xF8 => u16::from(byte(cdb, 14)),
+            _ => (number(cdb, 7, 2) & 0xFFFF) as u16,
+        };
+        let command = match opcode {
             0x00 => return Ok(Command::TestReady),
             0x25 => return Ok(Command::Capacity),
-            0x28 => Command::Read { lba, n },
+            0x28 => Command::Read {
+                lba,
+                n,
+                entry: None,
+            },
             0xF8 if byte(cdb, 15) <= 0x7F => Command::Read {
                 lba,
-                n: u16::from(byte(cdb, 14)),
+                n,
+                entry: Some(entry_at(cdb, 6)),
             },
             0xF8 => return Err(BAD_FIELD),
             0xF9 => return Command::list(cdb, units),
@@ -157,6 +191,7 @@ impl Command {
         let blocks = SUB_BLOCKS.min(u64::from(units).saturating_sub(first)) as u32;
         let length = number(cdb, 6, 3) & 0xFF_FFFF;
         Ok(Command::List {
+            lba: first as u32,
             given: length.min(blocks.saturating_mul(8)),
         })
     }
@@ -164,7 +199,7 @@ impl Command {
     /// The bytes that it sends.
     fn given(self) -> u32 {
         match self {
-            Command::List { given } => given,
+            Command::List { given, .. } => given,
             Command::Read { n, .. } => u32::from(n) * BLOCK_BYTES,
             Command::Capacity => 8,
             _ => 0,
@@ -205,6 +240,12 @@ impl Task {
     /// How many of the expected bytes were not moved.
     fn left(&self, moved: u32) -> u32 {
         self.expected.saturating_sub(moved)
+    }
+
+    /// The place of a block of its unit, where each unit has so many blocks.
+    fn place_of(&self, units: u32, lba: u32) -> usize {
+        let first = u64::from(self.lun).saturating_mul(u64::from(units));
+        first.saturating_add(u64::from(lba)) as usize
     }
 }
 
@@ -250,6 +291,13 @@ fn number(bytes: &[u8], place: usize, count: usize) -> u32 {
     sum
 }
 
+/// The entry in the eight bytes from a place on.
+fn entry_at(bytes: &[u8], place: usize) -> u64 {
+    let high = number(bytes, place, 4);
+    let low = number(bytes, place.saturating_add(4), 4);
+    u64::from(high) << 32 | u64::from(low)
+}
+
 /// The bytes of hex digits of lower case.
 fn decode(alloc: Global, digits: &[u8]) -> Result<Vec<u8>, Stop> {
     let mut bytes = Vec::new(alloc);
@@ -272,17 +320,17 @@ fn nibble(digit: u8) -> Result<u8, Stop> {
 }
 
 /// The number of decimal digits without leading zeros.
-fn decimal(digits: &[u8]) -> Result<u32, Stop> {
+fn decimal(digits: &[u8]) -> Result<u64, Stop> {
     if digits.is_empty() || (digits.len() > 1 && digits.starts_with(b"0")) {
         return Err(Stop::Bad(Why::Line));
     }
-    let mut sum = 0u32;
+    let mut sum = 0u64;
     for digit in digits {
         let value = nibble(*digit)?;
         if value > 9 {
             return Err(Stop::Bad(Why::Line));
         }
-        sum = sum.wrapping_mul(10).wrapping_add(u32::from(value));
+        sum = sum.wrapping_mul(10).wrapping_add(u64::from(value));
     }
     Ok(sum)
 }
@@ -357,27 +405,88 @@ fn response(
     Ok(bytes)
 }
 
+/// Whether the chip has a page of a block.
+#[derive(Clone, Copy, PartialEq, Eq)]
+enum Page {
+    None,
+    Maybe,
+    Some,
+}
+
+/// What is known of a place: the blocks that it may have, its page, and the entries that were listed for it since that page
+/// may last have become another one.
+#[derive(Drop)]
+struct Place {
+    blocks: Vec<Vec<u8>>,
+    page: Page,
+    fresh: Vec<u64>,
+}
+
+impl Place {
+    /// A block of zeros that was never written.
+    fn new(alloc: Global) -> Result<Place, Stop> {
+        let mut blocks = Vec::new(alloc);
+        blocks.push(vec![in alloc; 0; BLOCK]?)?;
+        Ok(Place {
+            blocks,
+            page: Page::None,
+            fresh: Vec::new(alloc),
+        })
+    }
+
+    fn allows(&self, block: &[u8]) -> bool {
+        self.blocks
+            .iter()
+            .any(|allowed| allowed.as_slice() == block)
+    }
+
+    /// Whether this entry may be listed for it, on a chip of so many pages.
+    fn lists(&self, entry: u64, pages: u32) -> bool {
+        match self.page {
+            Page::None => entry == u64::MAX,
+            Page::Maybe => entry == u64::MAX || entry < u64::from(pages),
+            Page::Some => entry < u64::from(pages),
+        }
+    }
+
+    /// Data for it have come, so it may get another page.
+    fn take_data(&mut self) {
+        self.fresh.clear();
+        if self.page == Page::None {
+            self.page = Page::Maybe;
+        }
+    }
+
+    /// It has this block, or may have it beside those that it may have had.
+    fn put_block(&mut self, alloc: Global, block: &[u8], is_alone: bool) -> Result<(), Stop> {
+        if is_alone {
+            self.blocks.clear();
+        }
+        self.blocks.push(block.to_vec(alloc)?)?;
+        Ok(())
+    }
+}
+
 /// The tasks and blocks of a device whose transcript is read, the reply that is due, the call of the chip that failed
-/// directly before, whether the chip must have been scanned, and how many steps were made at least.
+/// directly before, whether the chip must have been scanned since it was reset, and what was seen of the counts and told.
 #[derive(Drop)]
 struct Oracle {
     alloc: Global,
     sizes: Sizes,
     tasks: VecDeque<Task>,
-    places: Vec<Vec<Vec<u8>>>,
+    places: Vec<Place>,
     due: Option<Vec<u8>>,
     failed: Option<Call>,
     is_scanned: bool,
-    steps: u64,
+    seen: Seen,
+    told: Option<Counts>,
 }
 
 impl Oracle {
     fn new(alloc: Global, sizes: Sizes) -> Result<Oracle, Stop> {
         let mut places = Vec::new(alloc);
         for _place in 0..u32::from(sizes.luns).saturating_mul(sizes.units) {
-            let mut blocks = Vec::new(alloc);
-            blocks.push(vec![in alloc; 0; BLOCK]?)?;
-            places.push(blocks)?;
+            places.push(Place::new(alloc)?)?;
         }
         Ok(Oracle {
             alloc,
@@ -387,7 +496,8 @@ impl Oracle {
             due: None,
             failed: None,
             is_scanned: false,
-            steps: 0,
+            seen: Seen::NOTHING,
+            told: None,
         })
     }
 
@@ -397,6 +507,9 @@ impl Oracle {
     }
 
     fn take_line(&mut self, line: &[u8]) -> Result<(), Stop> {
+        if self.told.is_some() {
+            return Err(Stop::Bad(Why::Line));
+        }
         if let Some(digits) = line.strip_prefix(b"< ") {
             let bytes = decode(self.alloc, digits)?;
             return self.take_device(&bytes);
@@ -404,46 +517,64 @@ impl Oracle {
         if self.due.is_some() {
             return Err(Stop::Bad(Why::Reply));
         }
+        self.failed = None;
         if let Some(digits) = line.strip_prefix(b"> ") {
             let bytes = decode(self.alloc, digits)?;
             return self.take_host(&bytes);
         }
-        self.count_steps(1);
         if let Some(digits) = line.strip_prefix(b"M ") {
             return self.take_moved(digits);
         }
-        self.failed = match line {
-            b"! read" => Some(Call::Read),
-            b"! program" | b"! erase" => Some(Call::Change),
+        if line.starts_with(b"T") {
+            return self.take_counts(line);
+        }
+        match line {
+            b"R" => return self.reset(),
+            b"! read" => self.failed = Some(Call::Read),
+            b"! program" | b"! erase" => self.failed = Some(Call::Change),
             _ => return Err(Stop::Bad(Why::Line)),
-        };
+        }
         Ok(())
     }
 
-    fn count_steps(&mut self, count: u32) {
-        self.steps = self.steps.saturating_add(u64::from(count));
-    }
-
-    /// The chip is scanned: each of its pages was read in a step.
-    fn scan(&mut self) {
-        if !self.is_scanned {
-            self.is_scanned = true;
-            self.count_steps(self.sizes.pages);
-        }
-    }
-
-    /// The collector moves a block, while a write has blocks to program.
+    /// The collector has moved a block, which has a page.
     fn take_moved(&mut self, digits: &[u8]) -> Result<(), Stop> {
         let lba = decimal(digits)?;
-        self.failed = None;
-        match self.tasks.front() {
-            Some(task) if task.come() > 0 && !task.waits() && lba < self.sizes.units => Ok(()),
-            _ => Err(Stop::Bad(Why::Moved)),
+        if !self.sizes.is_sound || lba >= u64::from(self.sizes.units) {
+            return Err(Stop::Bad(Why::Moved));
         }
+        match self.places.get_mut(lba as usize) {
+            Some(place) if place.page != Page::None => {
+                place.fresh.clear();
+                place.page = Page::Some;
+            }
+            _ => return Err(Stop::Bad(Why::Moved)),
+        }
+        self.seen.count_moved();
+        Ok(())
+    }
+
+    fn take_counts(&mut self, line: &[u8]) -> Result<(), Stop> {
+        let told = read_counts(line)?;
+        if !self.seen.allows(told, self.sizes) {
+            return Err(Stop::Bad(Why::Counts));
+        }
+        self.told = Some(told);
+        Ok(())
+    }
+
+    /// All tasks go, and the chip is scanned anew.
+    fn reset(&mut self) -> Result<(), Stop> {
+        self.is_scanned = false;
+        for _task in 0..ROOM {
+            if let Some(task) = self.tasks.pop_front() {
+                self.settle(&task, false)?;
+            }
+        }
+        Ok(())
     }
 
     fn take_host(&mut self, bytes: &[u8]) -> Result<(), Stop> {
-        self.failed = None;
         self.due = self.reply_to(bytes)?;
         if self.due.is_some() {
             return Ok(());
@@ -528,10 +659,22 @@ impl Oracle {
         Ok(())
     }
 
-    /// The first task takes data.
+    /// The first task takes data. Each of its blocks may get another page.
     fn take_data(&mut self, segment: &[u8]) -> Result<(), Stop> {
-        if let Some(task) = self.tasks.front_mut() {
-            task.come.extend_from_slice(segment)?;
+        let units = self.sizes.units;
+        let Some(task) = self.tasks.front_mut() else {
+            return Ok(());
+        };
+        let before = task.come() / BLOCK_BYTES;
+        task.come.extend_from_slice(segment)?;
+        self.seen
+            .count_come((task.come() / BLOCK_BYTES).saturating_sub(before));
+        if let Command::Write { lba, n } = task.command {
+            let first = task.place_of(units, lba);
+            let blocks = self.places.iter_mut().skip(first).take(usize::from(n));
+            for place in blocks {
+                place.take_data();
+            }
         }
         Ok(())
     }
@@ -545,7 +688,7 @@ impl Oracle {
         self.failed = None;
         let upiu = Upiu::at(bytes);
         match upiu.code {
-            0x21 => self.end(upiu.tag, byte(bytes, 7) == 0),
+            0x21 => self.end(&upiu, bytes),
             0x22 => self.show(&upiu),
             _ => {
                 self.ask(&upiu);
@@ -554,14 +697,13 @@ impl Oracle {
         }
     }
 
-    /// A step sends these bytes. Where a call of the chip failed in it, it was counted with that call.
+    /// A step sends these bytes. If they don't tell that the chip isn't ready, each of its pages was read in a step before.
     fn take_step(&mut self, bytes: &[u8]) -> Result<(), Stop> {
         self.judge(bytes)?;
-        if self.failed.is_none() {
-            self.count_steps(1);
-        }
-        if !is_unscanned(bytes) {
-            self.scan();
+        self.seen.count_steps(1);
+        if !is_unready(bytes) && !self.is_scanned {
+            self.is_scanned = true;
+            self.seen.count_steps(self.sizes.pages);
         }
         Ok(())
     }
@@ -571,6 +713,9 @@ impl Oracle {
         let Some(task) = self.tasks.front() else {
             return Err(Stop::Bad(Why::Sent));
         };
+        if !self.sizes.is_sound && !is_unready(bytes) {
+            return Err(Stop::Bad(Why::Sent));
+        }
         match byte(bytes, 0) {
             0x21 => self.judge_end(task, bytes),
             0x22 => self.judge_data(task, bytes),
@@ -581,7 +726,7 @@ impl Oracle {
     fn judge_data(&self, task: &Task, bytes: &[u8]) -> Result<(), Stop> {
         let length = match task.command {
             Command::Read { .. } => BLOCK_BYTES,
-            Command::List { given } => given.saturating_sub(task.sent).min(BLOCK_BYTES),
+            Command::List { given, .. } => given.saturating_sub(task.sent).min(BLOCK_BYTES),
             _ => 8,
         };
         let padded = length.saturating_add(3) / 4 * 4;
@@ -592,38 +737,42 @@ impl Oracle {
         if task.sent >= task.command.given() || segment.len() != padded as usize {
             return Err(Stop::Bad(Why::Sent));
         }
-        let is_allowed = match task.command {
-            Command::Read { lba, .. } => self.allows(self.place(task, lba), segment),
-            Command::List { .. } => self.are_entries(segment),
-            _ => self.is_capacity(segment),
-        };
-        if is_allowed {
-            return Ok(());
+        match task.command {
+            Command::Read { lba, .. } if !self.allows(self.place(task, lba), segment) => {
+                Err(Stop::Bad(Why::Block))
+            }
+            Command::List { lba, .. } => {
+                let entries = segment.get(..length as usize).unwrap_or(&[]);
+                self.judge_entries(listed_from(task, self.sizes.units, lba), entries)
+            }
+            Command::Capacity if !self.is_capacity(segment) => Err(Stop::Bad(Why::Block)),
+            _ => Ok(()),
         }
-        Err(Stop::Bad(Why::Block))
     }
 
     /// The place of the block that a read from this LBA on sends next.
     fn place(&self, task: &Task, lba: u32) -> usize {
-        let first = u64::from(task.lun).saturating_mul(u64::from(self.sizes.units));
-        let block = u64::from(lba) + u64::from(task.sent / BLOCK_BYTES);
-        first.saturating_add(block) as usize
+        task.place_of(
+            self.sizes.units,
+            lba.saturating_add(task.sent / BLOCK_BYTES),
+        )
     }
 
     fn allows(&self, place: usize, block: &[u8]) -> bool {
-        match self.places.get(place) {
-            Some(blocks) => blocks.iter().any(|allowed| allowed.as_slice() == block),
-            None => false,
-        }
+        self.places
+            .get(place)
+            .is_some_and(|place| place.allows(block))
     }
 
-    /// Numbers of pages, or of none.
-    fn are_entries(&self, segment: &[u8]) -> bool {
-        segment.chunks_exact(8).all(|entry| {
-            let high = number(entry, 0, 4);
-            let low = number(entry, 4, 4);
-            (high == 0 && low < self.sizes.pages) || (high == u32::MAX && low == u32::MAX)
-        })
+    /// Whether the places from this one on may have these entries.
+    fn judge_entries(&self, first: usize, entries: &[u8]) -> Result<(), Stop> {
+        let places = self.places.iter().skip(first);
+        for (place, entry) in places.zip(entries.chunks_exact(8)) {
+            if !place.lists(entry_at(entry, 0), self.sizes.pages) {
+                return Err(Stop::Bad(Why::Entry));
+            }
+        }
+        Ok(())
     }
 
     /// The last LBA, and the bytes of a block.
@@ -641,7 +790,7 @@ impl Oracle {
         if has_moved && good.as_slice() == bytes {
             return Ok(());
         }
-        let sense = (byte(bytes, 36), byte(bytes, 46));
+        let sense = sense_of(bytes);
         let left = task.left(task.sent.saturating_add(come));
         let check = response(self.alloc, of, 0x02, left, Some(sense))?;
         if check.as_slice() != bytes {
@@ -656,7 +805,9 @@ impl Oracle {
             Command::Read { .. } if sense == UNREAD => self.failed == Some(Call::Read),
             Command::Write { .. } if sense == UNPROGRAMMED => self.failed.is_some(),
             Command::Write { .. } if sense == NO_NUMBER => false,
-            _ if sense == UNSCANNED => self.failed == Some(Call::Read) && !self.is_scanned,
+            _ if sense == UNREADY => {
+                !self.sizes.is_sound || (self.failed == Some(Call::Read) && !self.is_scanned)
+            }
             _ => return Err(Stop::Bad(Why::Sent)),
         };
         if has_cause {
@@ -677,61 +828,99 @@ impl Oracle {
         }
     }
 
-    /// The first task has sent data. A block that is shown counts alone.
+    /// The first task has sent data.
     fn show(&mut self, upiu: &Upiu<'_>) -> Result<(), Stop> {
-        let place = match self.tasks.front() {
-            Some(task) => match task.command {
-                Command::Read { lba, .. } => Some(self.place(task, lba)),
-                _ => None,
-            },
-            None => None,
+        let Some(task) = self.tasks.front_mut() else {
+            return Ok(());
         };
-        if let Some(place) = place {
-            self.put_block(place, upiu.segment, true)?;
+        let (command, sent) = (task.command, task.sent);
+        let place = match command {
+            Command::Read { lba, .. } => {
+                task.place_of(self.sizes.units, lba.saturating_add(sent / BLOCK_BYTES))
+            }
+            Command::List { lba, .. } => listed_from(task, self.sizes.units, lba),
+            _ => 0,
+        };
+        task.sent = sent.saturating_add(upiu.count);
+        match command {
+            Command::Read { entry, .. } => {
+                let entry = if sent == 0 { entry } else { None };
+                self.show_block(place, entry, upiu.segment)
+            }
+            Command::List { .. } => self.list(place, upiu.segment),
+            _ => Ok(()),
         }
-        if let Some(task) = self.tasks.front_mut() {
-            task.sent = task.sent.saturating_add(upiu.count);
+    }
+
+    /// A place has shown this block, which counts alone, in a read that had this entry for it.
+    fn show_block(&mut self, place: usize, entry: Option<u64>, block: &[u8]) -> Result<(), Stop> {
+        let Some(place) = self.places.get_mut(place) else {
+            return Ok(());
+        };
+        let is_fresh = entry.is_some_and(|entry| place.fresh.contains(&entry));
+        self.seen.count_block(entry.is_some(), is_fresh);
+        place.put_block(self.alloc, block, true)
+    }
+
+    /// These entries were listed for the places from this one on. Where there is no page, nothing is.
+    fn list(&mut self, first: usize, entries: &[u8]) -> Result<(), Stop> {
+        let places = self.places.iter_mut().skip(first);
+        for (place, entry) in places.zip(entries.chunks_exact(8)) {
+            let entry = entry_at(entry, 0);
+            if entry != u64::MAX {
+                place.fresh.push(entry)?;
+            }
         }
         Ok(())
     }
 
-    /// A task ends. The blocks of a write that came count alone where it was answered GOOD, and else are old or new.
-    fn end(&mut self, tag: u8, is_good: bool) -> Result<(), Stop> {
-        let Some(index) = self.tasks.iter().position(|task| task.tag == tag) else {
+    /// A task ends.
+    fn end(&mut self, upiu: &Upiu<'_>, bytes: &[u8]) -> Result<(), Stop> {
+        let Some(index) = self.tasks.iter().position(|task| task.tag == upiu.tag) else {
             return Ok(());
         };
         let Some(task) = self.tasks.remove(index) else {
             return Ok(());
         };
+        if let (Command::Read { .. }, UNREAD) = (task.command, sense_of(bytes)) {
+            self.seen.count_failed();
+        }
+        self.settle(&task, byte(bytes, 7) == 0)
+    }
+
+    /// A task has gone. The blocks of a write that came count alone where it was answered GOOD, and else are old or new.
+    fn settle(&mut self, task: &Task, is_good: bool) -> Result<(), Stop> {
         let Command::Write { lba, .. } = task.command else {
             return Ok(());
         };
         if is_good {
-            self.count_steps(task.come() / BLOCK_BYTES);
+            self.seen.count_written(task.come() / BLOCK_BYTES);
         }
-        let mut place = self.place(&task, lba);
-        for block in task.come.chunks_exact(BLOCK) {
-            self.put_block(place, block, is_good)?;
-            place = place.saturating_add(1);
-        }
-        Ok(())
-    }
-
-    /// A place may have this block, and no other where it counts alone.
-    fn put_block(&mut self, place: usize, block: &[u8], is_alone: bool) -> Result<(), Stop> {
-        if let Some(blocks) = self.places.get_mut(place) {
-            if is_alone {
-                blocks.clear();
+        let first = task.place_of(self.sizes.units, lba);
+        let places = self.places.iter_mut().skip(first);
+        for (place, block) in places.zip(task.come.chunks_exact(BLOCK)) {
+            place.put_block(self.alloc, block, is_good)?;
+            if is_good {
+                place.page = Page::Some;
             }
-            blocks.push(block.to_vec(self.alloc)?)?;
         }
         Ok(())
     }
 }
 
-/// Whether these bytes end a task because the chip isn't scanned.
-fn is_unscanned(bytes: &[u8]) -> bool {
-    byte(bytes, 0) == 0x21 && (byte(bytes, 36), byte(bytes, 46)) == UNSCANNED
+/// The place whose entry READ BUFFER from this LBA on lists next.
+fn listed_from(task: &Task, units: u32, lba: u32) -> usize {
+    task.place_of(units, lba.saturating_add(task.sent / 8))
+}
+
+/// The sense key and code of a RESPONSE.
+fn sense_of(bytes: &[u8]) -> (u8, u8) {
+    (byte(bytes, 36), byte(bytes, 46))
+}
+
+/// Whether these bytes end a task because the chip isn't ready.
+fn is_unready(bytes: &[u8]) -> bool {
+    byte(bytes, 0) == 0x21 && sense_of(bytes) == UNREADY
 }
 
 /// Whether a task may ask for data by these bytes.
@@ -745,217 +934,27 @@ fn judge_ask(task: &Task, bytes: &[u8]) -> Result<(), Stop> {
     Err(Stop::Bad(Why::Sent))
 }
 
-/// What is found of the transcript of a device of these sizes, and how many steps it shows at least.
-pub fn judge(alloc: Global, sizes: Sizes, text: &[u8]) -> Result<(Verdict, u64), Fail> {
+/// What is found of the transcript of a device of these sizes, and what its last line tells.
+pub fn judge(alloc: Global, sizes: Sizes, text: &[u8]) -> Result<(Verdict, Option<Counts>), Fail> {
     let Ok(mut oracle) = Oracle::new(alloc, sizes) else {
         return Err(NoMemory.into());
     };
     if text.is_empty() {
-        return Ok((Verdict::Sound { rests: true }, 0));
+        return Ok((Verdict::Sound { rests: true }, None));
     }
     let mut line_number = 1usize;
     let lines = text.strip_suffix(b"\n").unwrap_or(text);
     for line in lines.split(|byte| *byte == b'\n') {
         match oracle.take_line(line) {
             Ok(()) => {}
-            Err(Stop::Bad(why)) => return Ok((Verdict::Bad(line_number, why), oracle.steps)),
+            Err(Stop::Bad(why)) => return Ok((Verdict::Bad(line_number, why), None)),
             Err(Stop::Memory) => return Err(NoMemory.into()),
         }
         line_number = line_number.saturating_add(1);
     }
     if oracle.due.is_some() {
-        return Ok((Verdict::Bad(line_number, Why::Reply), oracle.steps));
+        return Ok((Verdict::Bad(line_number, Why::Reply), None));
     }
     let rests = oracle.rests();
-    Ok((Verdict::Sound { rests }, oracle.steps))
-}
-
-/// A write, the data that it asks for, and their read.
-const WRITE: &str = "> 01200002 z z 00001000 2a000000 z 01000000 z";
-
-const ASKED: &str = "< 31000002 z z z 00001000 z z z";
-
-const DATA: &str = "> 02000002 z 00001000 z 00001000 z z z block";
-
-const WRITTEN: &str = "< 21000002 z z z z z z z";
-
-const READ: &str = "> 01400003 z z 00001000 28000000 z 01000000 z";
-
-const SHOWN: &str = "< 22000003 z 00001000 z 00001000 z z z block";
-
-const ZEROS: &str = "< 22000003 z 00001000 z 00001000 z z z zeros";
-
-const ENDED: &str = "< 21000003 z z z z z z z";
-
-/// The same read of the next place.
-const READ_NEXT: &str = "> 01400003 z z 00001000 28000000 00010000 01000000 z";
-
-/// A NOP OUT.
-const NOP: &str = "> 00000008 z z z z z z z";
-
-/// A write that ends with these codes of sense.
-const WRITE_FAILED: &str =
-    "< 21000002 00000102 00000014 z z z z z 00127000 03000000 000a0000 00000c00 z";
-
-const NO_NUMBER_LEFT: &str =
-    "< 21000002 00000102 00000014 z z z z z 00127000 07000000 000a0000 00002700 z";
-
-/// A read that ends with these.
-const READ_FAILED: &str =
-    "< 21200003 00000102 00000014 00001000 z z z z 00127000 03000000 000a0000 00001100 z";
-
-const CHIP_FAILED: &str =
-    "< 21200003 00000102 00000014 00001000 z z z z 00127000 04000000 000a0000 00004400 z";
-
-/// What is found of these lines at a unit of 20 blocks over 32 pages.
-fn judge_lines(alloc: Global, lines: &[&str]) -> Result<Verdict, Fail> {
-    let mut text = Vec::new(alloc);
-    for line in lines.iter().copied() {
-        push_words(&mut text, line)?;
-        text.push(b'\n')?;
-    }
-    let sizes = Sizes {
-        luns: 1,
-        units: 20,
-        pages: 32,
-    };
-    let (verdict, _) = judge(alloc, sizes, &text)?;
-    Ok(verdict)
-}
-
-/// Sound, where all is done that can be done without the host, and where something can go on.
-const RESTS: Verdict = Verdict::Sound { rests: true };
-
-const GOES_ON: Verdict = Verdict::Sound { rests: false };
-
-/// Transcripts, and what is found of each.
-const JUDGED: [(&[&str], Verdict); 44] = [
-    (&[], RESTS),
-    (&[WRITE], GOES_ON),
-    (&[WRITE, ASKED], RESTS),
-    (&[WRITE, ASKED, DATA], GOES_ON),
-    (&[WRITE, ASKED, DATA, WRITTEN, READ, SHOWN, ENDED], RESTS),
-    (&[READ_NEXT, ZEROS, ENDED], RESTS),
-    (&[READ, WRITE, ZEROS, ENDED, ASKED, DATA, WRITTEN], RESTS),
-    // The block of a write that failed is old or new, until it is read.
-    (
-        &[WRITE, ASKED, DATA, "! program", WRITE_FAILED, READ, SHOWN],
-        GOES_ON,
-    ),
-    (
-        &[WRITE, ASKED, DATA, "! program", WRITE_FAILED, READ, ZEROS],
-        GOES_ON,
-    ),
-    (&[READ, "! read", READ_FAILED], RESTS),
-    // The chip fails while it is scanned, once under a task.
-    (&["! read", READ, "! read", CHIP_FAILED], RESTS),
-    // The collector makes room for a write.
-    (&[WRITE, ASKED, DATA, "M 0", "M 19", WRITTEN], RESTS),
-    (&[WRITE, ASKED, DATA, "M 0", "! erase", WRITE_FAILED], RESTS),
-    (&[NOP, "< 20000008 z z z z z z z"], RESTS),
-    // More is expected than is moved.
-    (
-        &[
-            "> 01400003 z z 00002000 28000000 z 01000000 z",
-            ZEROS,
-            "< 21200003 z z 00001000 z z z z",
-        ],
-        RESTS,
-    ),
-    // TEST UNIT READY, READ CAPACITY(10), SYNCHRONIZE CACHE(10).
-    (
-        &[
-            "> 01000003 z z z z z z z",
-            ENDED,
-            "> 01400003 z z 00000008 25000000 z z z",
-            "< 22000003 z 00000008 z 00000008 z z z 00000013 00001000",
-            ENDED,
-            "> 01000003 z z z 35000000 00130000 01000000 z",
-            ENDED,
-        ],
-        RESTS,
-    ),
-    // GOOD is left out, comes too early, or has another residual.
-    (
-        &[WRITE, ASKED, DATA, READ, SHOWN],
-        Verdict::Bad(5, Why::Sent),
-    ),
-    (&[READ, ENDED], Verdict::Bad(2, Why::Sent)),
-    (
-        &[READ, ZEROS, "< 21200003 z z 00001000 z z z z"],
-        Verdict::Bad(3, Why::Sent),
-    ),
-    // A block that was never written, that of another place, and one that is stale.
-    (&[READ, SHOWN], Verdict::Bad(2, Why::Block)),
-    (
-        &[WRITE, ASKED, DATA, WRITTEN, READ_NEXT, SHOWN],
-        Verdict::Bad(6, Why::Block),
-    ),
-    (
-        &[WRITE, ASKED, DATA, WRITTEN, READ, ZEROS],
-        Verdict::Bad(6, Why::Block),
-    ),
-    // Sense without its cause.
-    (&[READ, READ_FAILED], Verdict::Bad(2, Why::Cause)),
-    (
-        &[READ, "! program", READ_FAILED],
-        Verdict::Bad(3, Why::Cause),
-    ),
-    (
-        &[READ, "! read", WRITE, READ_FAILED],
-        Verdict::Bad(4, Why::Cause),
-    ),
-    (&[READ, CHIP_FAILED], Verdict::Bad(2, Why::Cause)),
-    // The chip was scanned before.
-    (
-        &[READ, ZEROS, ENDED, READ, "! read", CHIP_FAILED],
-        Verdict::Bad(6, Why::Cause),
-    ),
-    // A block is moved where no write has blocks to program, and outside the unit.
-    (&[WRITE, ASKED, "M 0"], Verdict::Bad(3, Why::Moved)),
-    (&[READ, "M 0"], Verdict::Bad(2, Why::Moved)),
-    (&[WRITE, ASKED, DATA, "M 20"], Verdict::Bad(4, Why::Moved)),
-    (
-        &[WRITE, ASKED, DATA, WRITE_FAILED],
-        Verdict::Bad(4, Why::Cause),
-    ),
-    (
-        &[WRITE, ASKED, DATA, NO_NUMBER_LEFT],
-        Verdict::Bad(4, Why::Cause),
-    ),
-    // A reply that is missing, at the end too, or another.
-    (&[NOP, READ], Verdict::Bad(2, Why::Reply)),
-    (&[NOP, "! read"], Verdict::Bad(2, Why::Reply)),
-    (&[NOP], Verdict::Bad(2, Why::Reply)),
-    (
-        &[NOP, "< 20000009 z z z z z z z"],
-        Verdict::Bad(2, Why::Reply),
-    ),
-    (
-        &["> z", "< 3f000000 00000100 z 02000000 z z z z"],
-        Verdict::Bad(2, Why::Reply),
-    ),
-    // Data are asked for twice, or too many.
-    (&[WRITE, ASKED, ASKED], Verdict::Bad(3, Why::Sent)),
-    (
-        &[WRITE, "< 31000002 z z z 00002000 z z z"],
-        Verdict::Bad(2, Why::Sent),
-    ),
-    (&[ENDED], Verdict::Bad(1, Why::Sent)),
-    // No lines of a transcript.
-    (&["E line 1"], Verdict::Bad(1, Why::Line)),
-    (&["> 0"], Verdict::Bad(1, Why::Line)),
-    (&["> 0F"], Verdict::Bad(1, Why::Line)),
-    (&["M 00"], Verdict::Bad(1, Why::Line)),
-];
-
-#[test]
-fn transcripts_are_judged(rt: HostRuntime) -> Result<(), Fail> {
-    let mut row = 0usize;
-    for (lines, verdict) in JUDGED {
-        let found = judge_lines(rt.alloc(), lines)?;
-        assert_eq!(rt; found, verdict, "row {row}");
-        row = row.saturating_add(1);
-    }
-    Ok(())
+    Ok((Verdict::Sound { rests }, oracle.told))
 }

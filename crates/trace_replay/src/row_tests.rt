@@ -333,19 +333,156 @@ const MOVED: [(&str, &str); 2] = [
     ("D", "M 12 / < 21000002 z z z z z z z"),
 ];
 
+/// A block at LBA 2 on page 0, and one at LBA 3 on page 1. LBA 3 is read with the entries 1, 0, 2^64 - 1 and 32.
+const BY_ENTRIES: [(&str, &str); 16] = [
+    ("U 01200002 z z 00001000 2a000000 00020000 01000000 z", ""),
+    ("D", "< 31000002 z z z 00001000 z z z"),
+    ("U 02000002 z 00001000 z 00001000 z z z 11s", ""),
+    ("D", "< 21000002 z z z z z z z"),
+    ("U 01200002 z z 00001000 2a000000 00030000 01000000 z", ""),
+    ("D", "< 31000002 z z z 00001000 z z z"),
+    ("U 02000002 z 00001000 z 00001000 z z z 22s", ""),
+    ("D", "< 21000002 z z z z z z z"),
+    ("U 01400009 z z 00001000 f8000000 00030000 z 00010100", ""),
+    (
+        "D",
+        "< 22000009 z 00001000 z 00001000 z z z 22s / < 21000009 z z z z z z z",
+    ),
+    ("U 01400009 z z 00001000 f8000000 00030000 z 00000100", ""),
+    (
+        "D",
+        "< 22000009 z 00001000 z 00001000 z z z 22s / < 21000009 z z z z z z z",
+    ),
+    (
+        "U 01400009 z z 00001000 f8000000 0003ffff ffffffff ffff0100",
+        "",
+    ),
+    (
+        "D",
+        "< 22000009 z 00001000 z 00001000 z z z 22s / < 21000009 z z z z z z z",
+    ),
+    ("U 01400009 z z 00001000 f8000000 00030000 z 00200100", ""),
+    (
+        "D",
+        "< 22000009 z 00001000 z 00001000 z z z 22s / < 21000009 z z z z z z z",
+    ),
+];
+
+/// LBA 3 is written on page 0 and then on page 1, and is read with the entry 0.
+const BY_A_STALE_ENTRY: [(&str, &str); 10] = [
+    ("U 01200002 z z 00001000 2a000000 00030000 01000000 z", ""),
+    ("D", "< 31000002 z z z 00001000 z z z"),
+    ("U 02000002 z 00001000 z 00001000 z z z 11s", ""),
+    ("D", "< 21000002 z z z z z z z"),
+    ("U 01200002 z z 00001000 2a000000 00030000 01000000 z", ""),
+    ("D", "< 31000002 z z z 00001000 z z z"),
+    ("U 02000002 z 00001000 z 00001000 z z z 22s", ""),
+    ("D", "< 21000002 z z z z z z z"),
+    ("U 01400009 z z 00001000 f8000000 00030000 z 00000100", ""),
+    (
+        "D",
+        "< 22000009 z 00001000 z 00001000 z z z 22s / < 21000009 z z z z z z z",
+    ),
+];
+
+/// A block is written while the collector has its older page in the buffer. The move that follows is another block's, and
+/// after a reset the block is the newer one.
+const OVERWRITTEN_IN_THE_BUFFER: [(&str, &str); 17] = [
+    ("U 01200002 z z 00004000 2a000000 z 04000000 z", ""),
+    ("D", "< 31000002 z z z 00004000 z z z"),
+    ("U 02000002 z 00004000 z 00004000 z z z 11s 11s 11s 11s", ""),
+    ("D", "< 21000002 z z z z z z z"),
+    ("U 01200002 z z 00001000 2a000000 z 01000000 z", ""),
+    ("D", "< 31000002 z z z 00001000 z z z"),
+    ("U 02000002 z 00001000 z 00001000 z z z block", ""),
+    ("D", "< 21000002 z z z z z z z"),
+    ("C 1", ""),
+    ("U 01200002 z z 00001000 2a000000 00010000 01000000 z", ""),
+    ("D", "< 31000002 z z z 00001000 z z z"),
+    ("U 02000002 z 00001000 z 00001000 z z z 22s", ""),
+    ("D", "< 21000002 z z z z z z z"),
+    ("C 2", "M 2"),
+    ("R", "R"),
+    ("U 01400001 z z 00001000 28000000 00010000 01000000 z", ""),
+    (
+        "D",
+        "< 22000001 z 00001000 z 00001000 z z z 22s / < 21000001 z z z z z z z",
+    ),
+];
+
+/// A write is cut by a reset when two of its three blocks are programmed. They are the new ones after this reset and the next.
+const CUT_BY_A_RESET: [(&str, &str); 14] = [
+    ("U 01200002 z z 00003000 2a000000 z 03000000 z", ""),
+    ("D", "< 31000002 z z z 00003000 z z z"),
+    ("U 02000002 z 00003000 z 00003000 z z z 11s 11s 11s", ""),
+    ("D", "< 21000002 z z z z z z z"),
+    ("U 01200002 z z 00003000 2a000000 z 03000000 z", ""),
+    ("D", "< 31000002 z z z 00003000 z z z"),
+    ("U 02000002 z 00003000 z 00003000 z z z 22s 22s 22s", ""),
+    ("S 2", ""),
+    ("R", "R"),
+    ("U 01400001 z z 00003000 28000000 z 03000000 z", ""),
+    ("D", CUT_BLOCKS),
+    ("R", "R"),
+    ("U 01400001 z z 00003000 28000000 z 03000000 z", ""),
+    ("D", CUT_BLOCKS),
+];
+
+/// The blocks of the cut write.
+const CUT_BLOCKS: &str = "< 22000001 z 00001000 z 00001000 z z z 22s / \
+     < 22000001 z 00001000 00001000 00001000 z z z 22s / \
+     < 22000001 z 00001000 00002000 00001000 z z z 11s / < 21000001 z z z z z z z";
+
 /// No call of the chip has this number.
 const NONE: u64 = 1000;
 
-/// The name of a row, how often a block is written first, its tables, and the number of the call of the chip that fails.
-const ROWS: [(&str, usize, &[&[(&str, &str)]], u64); 19] = [
-    ("nothing", 0, &[], NONE),
-    ("never written", 0, &[&UNWRITTEN], NONE),
-    ("more writes than pages", 33, &[&READ_BACK], NONE),
+/// A row: its name, how often a block is written first, its tables, the number of the call of the chip that fails, and what is
+/// counted.
+type Row = (
+    &'static str,
+    usize,
+    &'static [&'static [(&'static str, &'static str)]],
+    u64,
+    &'static str,
+);
+
+const ROWS: [Row; 24] = [
+    ("nothing", 0, &[], NONE, "T=0,0,0,0,0"),
+    ("never written", 0, &[&UNWRITTEN], NONE, "T=34,1,0,0,0"),
+    ("one block", 1, &[&READ_BACK], NONE, "T=37,1,0,0,0"),
+    ("nine blocks", 0, &[&NINE_BLOCKS], NONE, "T=44,0,0,0,0"),
+    ("at the end", 0, &[&AT_THE_END], NONE, "T=35,1,0,0,0"),
+    ("by entries", 0, &[&BY_ENTRIES], NONE, "T=49,3,1,0,0"),
+    (
+        "by a stale entry",
+        0,
+        &[&BY_A_STALE_ENTRY],
+        NONE,
+        "T=41,1,0,0,0",
+    ),
+    (
+        "overwritten in the buffer",
+        0,
+        &[&OVERWRITTEN_IN_THE_BUFFER],
+        NONE,
+        "T=78,1,0,1,0",
+    ),
+    (
+        "cut by a reset",
+        0,
+        &[&CUT_BY_A_RESET],
+        NONE,
+        "T=112,6,0,0,0",
+    ),
     (
         "written anew again and again",
         0,
-        &[&FILLED, &FILLED, &FILLED, &FILLED, &FILLED, &READ_BACK],
+        &[
+            &FILLED, &FILLED, &FILLED, &FILLED, &FILLED, &FILLED, &FILLED, &FILLED, &FILLED,
+            &FILLED, &FILLED,
+        ],
         NONE,
+        "T=344,0,0,0,48",
     ),
     (
         "moved block",
@@ -353,21 +490,32 @@ const ROWS: [(&str, usize, &[&[(&str, &str)]], u64); 19] = [
         &[
             &FILLED, &ASKED, &GIVEN, &ASKED_4, &GIVEN, &ASKED_8, &GIVEN, &ASKED_12, &GIVEN,
             &ASKED_16, &GIVEN, &ASKED, &GIVEN, &ASKED_4, &GIVEN, &ASKED_8, &GIVEN, &ASKED_12,
-            &MOVED, &READ_BACK,
+            &MOVED,
         ],
         NONE,
+        "T=86,0,0,1,1",
+    ),
+    ("second read", 0, &[&SECOND_READ], 37, "T=43,5,0,0,0"),
+    (
+        "more writes than pages",
+        33,
+        &[&READ_BACK],
+        NONE,
+        "T=135,1,0,0,2",
     ),
     (
         "failed scan",
         0,
         &[&UNSCANNED, &ASKED, &GIVEN, &READ_BACK],
         32,
+        "T=40,2,0,0,0",
     ),
     (
         "failed scan without a task",
         0,
         &[&UNSCANNED_ALONE, &WRITTEN_BY_STEPS, &STEPPED],
         1,
+        "T=39,2,0,0,0",
     ),
     (
         "failed program",
@@ -381,16 +529,18 @@ const ROWS: [(&str, usize, &[&[(&str, &str)]], u64); 19] = [
             &READ_BACK,
         ],
         33,
+        "T=41,2,0,0,0",
     ),
-    ("failed read", 1, &[&UNREAD, &READ_BACK], 34),
-    ("at rest", 0, &[&ANSWERED, &CHECKED], NONE),
+    ("failed read", 1, &[&UNREAD, &READ_BACK], 34, "T=38,2,0,0,0"),
+    ("at rest", 0, &[&ANSWERED, &CHECKED], NONE, "T=0,0,0,0,0"),
     (
         "while a write waits",
         0,
         &[&ASKED, &ANSWERED, &GIVEN, &READ_BACK],
         NONE,
+        "T=37,1,0,0,0",
     ),
-    ("one by one", 1, &[&READ_MANY], NONE),
+    ("one by one", 1, &[&READ_MANY], NONE, "T=41,3,0,0,0"),
     (
         "other data",
         0,
@@ -405,22 +555,22 @@ const ROWS: [(&str, usize, &[&[(&str, &str)]], u64); 19] = [
             &READ_MANY,
         ],
         NONE,
+        "T=43,3,0,0,0",
     ),
-    ("by steps", 0, &[&WRITTEN_BY_STEPS, &STEPPED], NONE),
-    ("nine blocks", 0, &[&NINE_BLOCKS], NONE),
-    ("at the end", 0, &[&AT_THE_END], NONE),
-    ("wrong offset", 0, &[&WRONG_OFFSET], NONE),
-    ("second read", 0, &[&SECOND_READ], 37),
-    ("in order", 0, &[&IN_ORDER], NONE),
+    (
+        "by steps",
+        0,
+        &[&WRITTEN_BY_STEPS, &STEPPED],
+        NONE,
+        "T=38,2,0,0,0",
+    ),
+    ("wrong offset", 0, &[&WRONG_OFFSET], NONE, "T=35,1,0,0,0"),
+    ("in order", 0, &[&IN_ORDER], NONE, "T=36,0,0,0,0"),
 ];
 
 /// Whether a row is printed whole.
-fn is_row(
-    alloc: Global,
-    writes: usize,
-    tables: &[&[(&str, &str)]],
-    call: u64,
-) -> Result<bool, Fail> {
+fn is_row(alloc: Global, row: Row) -> Result<bool, Fail> {
+    let (_, writes, tables, call, counts) = row;
     let mut script = Script::new(alloc);
     for _write in 0..writes {
         script.add(&ASKED)?;
@@ -429,6 +579,7 @@ fn is_row(
     for lines in tables.iter().copied() {
         script.add(lines)?;
     }
+    script.end(counts)?;
     let mut outside = Outside::faultless(alloc);
     outside.calls.push(call)?;
     is_printed(alloc, &script, outside)
@@ -436,8 +587,9 @@ fn is_row(
 
 #[test]
 fn rows_are_printed_byte_for_byte(rt: HostRuntime) -> Result<(), Fail> {
-    for (name, writes, tables, call) in ROWS {
-        assert!(rt; is_row(rt.alloc(), writes, tables, call)?, "{name}");
+    for row in ROWS {
+        let (name, ..) = row;
+        assert!(rt; is_row(rt.alloc(), row)?, "{name}");
     }
     Ok(())
 }

@@ -1,7 +1,7 @@
 //! Whole runs over bytes and a chip in memory: cuts and faults in mid-stream, lines that are refused, and limits.
 use super::*;
 use crate::texts::push_words;
-use flash_pages::{Geometry, MemFlash};
+use flash_pages::{BLOCK_BYTES, Flash, Geometry, MemFlash, PageView, Spare};
 use hpb_outside::{MemSink, MemSource};
 use std::alloc::Global;
 use std::process::Abort;
@@ -16,7 +16,7 @@ const CHIP: Geometry = Geometry {
 const REPLAY: &str = "replay --blocks 8 --pages 4";
 
 /// More than any of these runs prints.
-const ROOM: usize = 1_000_000;
+const ROOM: usize = 4_000_000;
 
 /// A write is asked for its data.
 pub const ASKED: [(&str, &str); 2] = [
@@ -78,6 +78,13 @@ impl Script {
         Ok(())
     }
 
+    /// Adds the line with these counts that ends a trace which was taken whole.
+    pub fn end(&mut self, counts: &str) -> Result<(), Fail> {
+        push_words(&mut self.printed, counts)?;
+        self.printed.push(b'\n')?;
+        Ok(())
+    }
+
     /// What the lines before the one with this number print.
     fn printed_before(&self, number: usize) -> &[u8] {
         if number < 2 {
@@ -99,10 +106,23 @@ fn one_block(alloc: Global) -> Result<Script, Fail> {
     Ok(script)
 }
 
-/// What a run meets: its chip, where reads end early, and which calls fail, by their numbers from 1.
+/// The same as a whole trace.
+fn whole_block(alloc: Global) -> Result<Script, Fail> {
+    let mut script = one_block(alloc)?;
+    script.end("T=37,1,0,0,0")?;
+    Ok(script)
+}
+
+/// A page of a chip that is made by hand: its number, and the logical unit, the LBA and the sequence number in its spare
+/// area. Its block is bytes 11h.
+pub type Put = (u32, u8, u32, u64);
+
+/// What a run meets: its chip and the pages of it that are written, where reads end early, and which calls fail, by their
+/// numbers from 1. To write a page takes two calls of the chip.
 #[derive(Drop)]
 pub struct Outside {
     pub chip: Geometry,
+    pages: Vec<Put>,
     cuts: Vec<u64>,
     reads: Vec<u64>,
     writes: Vec<u64>,
@@ -115,6 +135,7 @@ impl Outside {
     pub fn faultless(alloc: Global) -> Outside {
         Outside {
             chip: CHIP,
+            pages: Vec::new(alloc),
             cuts: Vec::new(alloc),
             reads: Vec::new(alloc),
             writes: Vec::new(alloc),
@@ -122,13 +143,21 @@ impl Outside {
             room: ROOM,
         }
     }
+
+    /// The same over a chip on which these pages are written.
+    pub fn over(alloc: Global, pages: &[Put]) -> Result<Outside, Fail> {
+        let mut outside = Outside::faultless(alloc);
+        outside.pages.extend_from_slice(pages)?;
+        Ok(outside)
+    }
 }
 
-/// How a run ended, and what it printed.
+/// How a run ended, what it printed, and the chip that it handed back.
 #[derive(Drop)]
 pub struct Ran {
     pub status: Status,
     pub printed: Vec<u8>,
+    pub chip: MemFlash,
 }
 
 impl Ran {
@@ -157,27 +186,81 @@ pub fn words_of(alloc: Global, text: &str) -> Result<Vec<String>, Fail> {
     Ok(words)
 }
 
-/// Runs these words over a text and an erased chip.
+/// What a page of a chip shows: its first byte and its spare area, where it is written.
+pub type Shown = Option<(Option<u8>, Spare)>;
+
+/// Reads a page of a chip.
+fn show(flash: &mut MemFlash, page: u32) -> Result<Shown, Fail> {
+    let geometry = flash.geometry();
+    if !geometry.is_within_limits() || page >= geometry.blocks * geometry.pages {
+        return Err(Fail::new("no page"));
+    }
+    flash.read(page)?;
+    match flash.shown() {
+        PageView::Erased => Ok(None),
+        PageView::Written { bytes, spare } => Ok(Some((bytes.first().copied(), spare))),
+    }
+}
+
+/// Each of so many pages of a chip.
+pub fn pages_of(alloc: Global, flash: &mut MemFlash, count: u32) -> Result<Vec<Shown>, Fail> {
+    let mut pages = Vec::new(alloc);
+    for page in 0..count {
+        pages.push(show(flash, page)?)?;
+    }
+    Ok(pages)
+}
+
+/// Writes a page of a chip, where it is erased.
+fn put(flash: &mut MemFlash, (page, lun, lba, seq): Put) -> Result<(), Fail> {
+    let geometry = flash.geometry();
+    if !geometry.is_within_limits() || page >= geometry.blocks * geometry.pages {
+        return Err(Fail::new("no page"));
+    }
+    flash.read(page)?;
+    if let PageView::Erased = flash.shown() {
+        flash.program(page, &[0x11; BLOCK_BYTES], Spare { lun, lba, seq })?;
+    }
+    Ok(())
+}
+
+/// A chip on which these pages are written.
+fn made_chip(
+    alloc: Global,
+    chip: Geometry,
+    pages: &[Put],
+    calls: Vec<u64>,
+) -> Result<MemFlash, Fail> {
+    if !chip.is_within_limits() {
+        return Err(Fail::new("a chip outside its limits"));
+    }
+    let mut flash = MemFlash::new(alloc, chip, calls)?;
+    for page in pages {
+        put(&mut flash, *page)?;
+    }
+    Ok(flash)
+}
+
+/// Runs these words over a text and a chip.
 pub fn run_words(alloc: Global, words: &str, text: &[u8], outside: Outside) -> Result<Ran, Fail> {
     let names = words_of(alloc, words)?;
     let Outside {
         chip,
+        pages,
         cuts,
         reads,
         writes,
         calls,
         room,
     } = outside;
-    if !chip.is_within_limits() {
-        return Err(Fail::new("a chip outside its limits"));
-    }
+    let flash = made_chip(alloc, chip, &pages, calls)?;
     let mut source = MemSource::new(text.to_vec(alloc)?, cuts, reads);
     let mut sink = MemSink::new(alloc, room, writes)?;
-    let flash = MemFlash::new(alloc, chip, calls)?;
     let outcome = run(alloc, &names, &mut source, &mut sink, flash);
     Ok(Ran {
         status: outcome.status,
         printed: sink.bytes().to_vec(alloc)?,
+        chip: outcome.flash,
     })
 }
 
@@ -204,7 +287,7 @@ fn places(alloc: Global, first: u64, step: u64, count: usize) -> Result<Vec<u64>
 
 #[test]
 fn cuts_of_the_source_change_nothing(rt: HostRuntime) -> Result<(), Fail> {
-    let script = one_block(rt.alloc())?;
+    let script = whole_block(rt.alloc())?;
     // Bytes that come one by one at first, and cuts that together stand at each place of the trace.
     for (first, step, count) in [
         (1, 1, 300),
@@ -248,8 +331,8 @@ fn replay_by_lines(alloc: Global, script: &Script, read: u64, write: u64) -> Res
 
 #[test]
 fn a_fault_ends_a_replay_behind_what_was_printed(rt: HostRuntime) -> Result<(), Fail> {
-    let script = one_block(rt.alloc())?;
-    // The seventh read gives no line, and there is no eighth. Each write takes what one line prints.
+    let script = whole_block(rt.alloc())?;
+    // The seventh read gives no line, and there is no eighth. Each write takes what one line prints, the last one the counts.
     for (call, read, write) in [
         (1, Status::ReadFault, Status::WriteFault),
         (2, Status::ReadFault, Status::WriteFault),
@@ -257,7 +340,7 @@ fn a_fault_ends_a_replay_behind_what_was_printed(rt: HostRuntime) -> Result<(), 
         (4, Status::ReadFault, Status::WriteFault),
         (5, Status::ReadFault, Status::WriteFault),
         (6, Status::ReadFault, Status::WriteFault),
-        (7, Status::ReadFault, Status::Done),
+        (7, Status::ReadFault, Status::WriteFault),
         (8, Status::Done, Status::Done),
     ] {
         let printed = script.printed_before(call);
@@ -313,7 +396,20 @@ fn a_fault_ends_each_command(rt: HostRuntime) -> Result<(), Fail> {
 
 #[test]
 fn other_lines_are_refused_behind_what_was_served(rt: HostRuntime) -> Result<(), Fail> {
-    for line in ["U 0", "U 0g", "S", "S 1234567", "C 1", "R", "X", "d", "D\r"] {
+    for line in [
+        "U 0",
+        "U 0g",
+        "S",
+        "S 1234567",
+        "C",
+        "C 1234567",
+        "R\r",
+        "r",
+        "M 0",
+        "X",
+        "d",
+        "D\r",
+    ] {
         let mut script = one_block(rt.alloc())?;
         script.add(&[("# comment", ""), ("", "")])?;
         push_words(&mut script.trace, line)?;
@@ -362,7 +458,8 @@ fn comments(alloc: Global, count: usize) -> Result<Vec<u8>, Fail> {
 fn lines_have_limits(rt: HostRuntime) -> Result<(), Fail> {
     let mut trace = comments(rt.alloc(), 1_000_000)?;
     let ran = replay(rt.alloc(), &trace, Outside::faultless(rt.alloc()))?;
-    assert!(rt; ran.is_end(Status::Done, b""));
+    let counts = text_of(rt.alloc(), "T=0,0,0,0,0 /")?;
+    assert!(rt; ran.is_end(Status::Done, &counts));
     trace.push(b'#')?;
     let ran = replay(rt.alloc(), &trace, Outside::faultless(rt.alloc()))?;
     assert!(rt; ran.is_end(Status::LongTrace, b"E long\n"));

@@ -107,9 +107,15 @@ const OUTSIDE: [&str; 21] = [
 
 #[test]
 fn words_are_served_or_refused(rt: HostRuntime) -> Result<(), Fail> {
+    let counts = text_of(rt.alloc(), "T=0,0,0,0,0 /")?;
     for words in SERVED {
+        let printed = if words == "show" {
+            &[]
+        } else {
+            counts.as_slice()
+        };
         assert!(rt;
-            run_over(rt.alloc(), words, "")?.is_end(Status::Done, b""),
+            run_over(rt.alloc(), words, "")?.is_end(Status::Done, printed),
             "{words}"
         );
     }
@@ -130,12 +136,12 @@ fn words_are_served_or_refused(rt: HostRuntime) -> Result<(), Fail> {
 
 #[test]
 fn the_unit_has_the_named_blocks(rt: HostRuntime) -> Result<(), Fail> {
-    // Block 19 is read, or it is past the unit's last one and the read is answered at once.
+    // Block 19 is read, or it is past the unit's last one and the read is answered at once. The last line has the counts.
     let read = "U 01400001 z z 00001000 28000000 00130000 01000000 z";
     for (words, lines) in [
-        ("replay --blocks 8 --pages 4", 1),
-        ("replay --blocks 8 --pages 4 --units 20", 1),
-        ("replay --blocks 8 --pages 4 --units 19", 2),
+        ("replay --blocks 8 --pages 4", 2),
+        ("replay --blocks 8 --pages 4 --units 20", 2),
+        ("replay --blocks 8 --pages 4 --units 19", 3),
     ] {
         let ran = run_over(rt.alloc(), words, read)?;
         assert!(rt; ran.status == Status::Done, "{words}");

@@ -3,10 +3,10 @@
 
 Traces are made from a seed, of lines `U` and `D` alone. Some of the unit's blocks are written once, in pieces of 8
 blocks, and then single blocks of these are overwritten at random. Both the trace with the overwrites and the one
-without them are run, and the times and counts are of what the overwrites add. A moved page is a line `M` of the
-transcript. It is read once and programmed once, and each page that is programmed is erased once, sooner or later: so
-calls of the chip are told for a block of the host as they come to in the long run. Times are those of the processor,
-the best of several runs. The program has to be built first:
+without them are run, and the times and counts are of what the overwrites add. How many pages were moved and how many
+erase blocks were erased is told by the `T` line: a block of the host takes a call of the chip, a page that is moved
+two, and an erase block that is erased one. Times are those of the processor, the best of several runs. The program has
+to be built first:
 
     (cd crates/ufshpb && rt run -- replay </dev/null)
 """
@@ -56,15 +56,16 @@ def best(runs, words, trace):
     return min(run(words, trace)[1] for _ in range(runs))
 
 
-def count_moved(words, trace, transcript):
-    """How many pages were moved. Each write has to be answered GOOD."""
+def counted(words, trace, transcript):
+    """How many pages were moved, and how many erase blocks were erased. Each write has to be answered GOOD."""
     run(words, trace, transcript)
     with open(transcript, "rb") as lines:
-        texts = [line[:2] + line[14:16] for line in lines if line[:2] != b"> "]
-    bad = [text for text in texts if text[:2] not in (b"< ", b"M ")]
-    if bad:
+        texts = [line[:2] + line[14:16] if line[:2] != b"T " else line for line in lines if line[:2] != b"> "]
+    bad = [text for text in texts[:-1] if text[:2] not in (b"< ", b"M ")]
+    if bad or texts[-1][:2] != b"T ":
         raise SystemExit(f"{transcript} has other lines: {bad[:3]}")
-    return sum(text[:2] == b"M " for text in texts)
+    counts = dict(word.split(b"=") for word in texts[-1].split()[1:])
+    return int(counts[b"moved"]), int(counts[b"erased"])
 
 
 def measure_share(options, folder, share):
@@ -77,9 +78,9 @@ def measure_share(options, folder, share):
     chance = random.Random(options.seed)
     write_trace(written, fill_lines(chance, count), overwrite_lines(chance, count, options.overwrites))
     used = best(options.runs, words, written) - best(options.runs, words, filled)
-    moved = [count_moved(words, trace, folder / "moved.transcript") for trace in (written, filled)]
-    each = (moved[0] - moved[1]) / options.overwrites
-    calls = 1 + 2 * each + (1 + each) / PAGES
+    ends = [counted(words, trace, folder / "moved.transcript") for trace in (written, filled)]
+    each, erased = ((end - begin) / options.overwrites for end, begin in zip(*ends))
+    calls = 1 + 2 * each + erased
     rate = options.overwrites * BLOCK / 1e6 / used
     row(f"{share} %", f"{rate:.0f}", f"{used * 1e6 / options.overwrites:.1f}", f"{calls:.2f}", f"{each:.2f}", f"{1 + each:.2f}")
 

@@ -112,8 +112,8 @@ const FOREIGN: [(&str, &[Put]); 8] = [
     ),
 ];
 
-/// What a host sends to such a chip: commands of each kind, while the chip is scanned and after it, the collector, and a
-/// reset. Each task ends alike.
+/// What a host sends to such a chip: commands of each kind, while the chip is scanned and after it, the collector, and
+/// a reset. Each task ends alike.
 const SENT: [(&str, &str); 13] = [
     ("C 3", ""),
     ("U 01000001 z z z z z z z", ""),
@@ -142,8 +142,8 @@ const SENT: [(&str, &str); 13] = [
     ),
 ];
 
-/// The pages of a chip of which two are erased, and each full erase block has two current pages. Where the last page but
-/// one has LBA 0, one erase block has one.
+/// The pages of a chip of which two are erased, and each full erase block has two current pages. Where the last page
+/// but one has LBA 0, one erase block has one.
 fn crowded(alloc: Global, lba: u32) -> Result<Vec<Put>, Fail> {
     let mut pages = Vec::new(alloc);
     for page in 0..30u32 {
@@ -187,7 +187,8 @@ fn chips_that_no_device_leaves_behind_are_left_alone(rt: HostRuntime) -> Result<
     Ok(())
 }
 
-/// Over the same chip with one current page less a write goes on: its collector moves the one block of that erase block.
+/// Over the same chip with one current page less a write goes on: its collector moves the one block of that erase
+/// block.
 const MOVED: [(&str, &str); 4] = [
     ("U 01200002 z z 00001000 2a000000 00130000 01000000 z", ""),
     ("D", "< 31000002 z z z 00001000 z z z"),

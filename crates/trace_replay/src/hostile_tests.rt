@@ -104,7 +104,8 @@ fn text_of(alloc: Global, lines: &[&str]) -> Result<Vec<u8>, Fail> {
     Ok(text)
 }
 
-/// How a run ended, the events that it printed, what is found of them, and what it counted where the trace was taken whole.
+/// How a run ended, the events that it printed, what is found of them, and what it counted where the trace was taken
+/// whole.
 #[derive(Drop)]
 pub struct Ran {
     status: Status,
@@ -328,8 +329,9 @@ fn each_call_of_the_chip_fails(rt: HostRuntime) -> Result<(), Fail> {
     Ok(())
 }
 
-/// A chip of 10 pages is filled, and its collector makes room inside the last two writes. The 29 calls of the chip are 10 of
-/// the scan, 7 programs, a program, a page that is moved (3 calls), a program, an erase, two programs, and four reads.
+/// A chip of 10 pages is filled, and its collector makes room inside the last two writes. The 29 calls of the chip are
+/// 10 of the scan, 7 programs, a program, a page that is moved (3 calls), a program, an erase, two programs, and four
+/// reads.
 const OVERWRITES: [&str; 22] = [
     "U 01200002 z z 00004000 2a000000 z 04000000 z",
     "D",

@@ -1,5 +1,5 @@
-//! A checker of transcripts. It reads the bytes at their places by itself, and keeps its own tasks and blocks, so that it
-//! shares nothing with the device that it judges.
+//! A checker of transcripts. It reads the bytes at their places by itself, and keeps its own tasks and blocks, so that
+//! it shares nothing with the device that it judges.
 use hpb_outside::NoMemory;
 use std::alloc::{AllocError, AllocFailed, Global};
 use std::collections::VecDeque;
@@ -52,8 +52,8 @@ const NO_UNIT: (u8, u8) = (0x5, 0x25);
 
 const WRONG_DATA: (u8, u8) = (0xB, 0x4B);
 
-/// The sizes of a device: its logical units, the blocks of each, the pages of its chip and of an erase block. The chip is
-/// erased at first, or it is one that no device leaves behind.
+/// The sizes of a device: its logical units, the blocks of each, the pages of its chip and of an erase block. The chip
+/// is erased at first, or it is one that no device leaves behind.
 #[derive(Clone, Copy)]
 pub struct Sizes {
     pub luns: u8,
@@ -413,8 +413,8 @@ enum Page {
     Some,
 }
 
-/// What is known of a place: the blocks that it may have, its page, and the entries that were listed for it since that page
-/// may last have become another one.
+/// What is known of a place: the blocks that it may have, its page, and the entries that were listed for it since that
+/// page may last have become another one.
 #[derive(Drop)]
 struct Place {
     blocks: Vec<Vec<u8>>,
@@ -468,7 +468,8 @@ impl Place {
 }
 
 /// The tasks and blocks of a device whose transcript is read, the reply that is due, the call of the chip that failed
-/// directly before, whether the chip must have been scanned since it was reset, and what was seen of the counts and told.
+/// directly before, whether the chip must have been scanned since it was reset, and what was seen of the counts and
+/// told.
 #[derive(Drop)]
 struct Oracle {
     alloc: Global,
@@ -697,7 +698,8 @@ impl Oracle {
         }
     }
 
-    /// A step sends these bytes. If they don't tell that the chip isn't ready, each of its pages was read in a step before.
+    /// A step sends these bytes. If they don't tell that the chip isn't ready, each of its pages was read in a step
+    /// before.
     fn take_step(&mut self, bytes: &[u8]) -> Result<(), Stop> {
         self.judge(bytes)?;
         self.seen.count_steps(1);
@@ -888,7 +890,8 @@ impl Oracle {
         self.settle(&task, byte(bytes, 7) == 0)
     }
 
-    /// A task has gone. The blocks of a write that came count alone where it was answered GOOD, and else are old or new.
+    /// A task has gone. The blocks of a write that came count alone where it was answered GOOD, and else are old or
+    /// new.
     fn settle(&mut self, task: &Task, is_good: bool) -> Result<(), Stop> {
         let Command::Write { lba, .. } = task.command else {
             return Ok(());

@@ -57,7 +57,8 @@ const UNREAD: [(&str, &str); 2] = [
     ),
 ];
 
-/// What is answered at once and changes nothing: REJECT by its reason, with LUN and tag of the host's bytes, and NOP OUT.
+/// What is answered at once and changes nothing: REJECT by its reason, with LUN and tag of the host's bytes, and NOP
+/// OUT.
 const ANSWERED: [(&str, &str); 12] = [
     (
         "U z z z z z z z 000000",
@@ -262,12 +263,17 @@ const SECOND_READ: [(&str, &str); 8] = [
     ("U 01400006 z z 00003000 28000000 z 03000000 z", ""),
     (
         "D",
-        "< 22000006 z 00001000 z 00001000 z z z block / ! read / < 21200006 00000102 00000014 00002000 z z z z 00127000 03000000 000a0000 00001100 z",
+        "< 22000006 z 00001000 z 00001000 z z z block / \
+         ! read / \
+         < 21200006 00000102 00000014 00002000 z z z z 00127000 03000000 000a0000 00001100 z",
     ),
     ("U 01400006 z z 00003000 28000000 z 03000000 z", ""),
     (
         "D",
-        "< 22000006 z 00001000 z 00001000 z z z block / < 22000006 z 00001000 00001000 00001000 z z z zeros / < 22000006 z 00001000 00002000 00001000 z z z block / < 21000006 z z z z z z z",
+        "< 22000006 z 00001000 z 00001000 z z z block / \
+         < 22000006 z 00001000 00001000 00001000 z z z zeros / \
+         < 22000006 z 00001000 00002000 00001000 z z z block / \
+         < 21000006 z z z z z z z",
     ),
 ];
 
@@ -385,8 +391,8 @@ const BY_A_STALE_ENTRY: [(&str, &str); 10] = [
     ),
 ];
 
-/// A block is written while the collector has its older page in the buffer. The move that follows is another block's, and
-/// after a reset the block is the newer one.
+/// A block is written while the collector has its older page in the buffer. The move that follows is another block's,
+/// and after a reset the block is the newer one.
 const OVERWRITTEN_IN_THE_BUFFER: [(&str, &str); 17] = [
     ("U 01200002 z z 00004000 2a000000 z 04000000 z", ""),
     ("D", "< 31000002 z z z 00004000 z z z"),
@@ -410,7 +416,8 @@ const OVERWRITTEN_IN_THE_BUFFER: [(&str, &str); 17] = [
     ),
 ];
 
-/// A write is cut by a reset when two of its three blocks are programmed. They are the new ones after this reset and the next.
+/// A write is cut by a reset when two of its three blocks are programmed. They are the new ones after this reset and
+/// the next.
 const CUT_BY_A_RESET: [(&str, &str); 14] = [
     ("U 01200002 z z 00003000 2a000000 z 03000000 z", ""),
     ("D", "< 31000002 z z z 00003000 z z z"),
@@ -436,8 +443,8 @@ const CUT_BLOCKS: &str = "< 22000001 z 00001000 z 00001000 z z z 22s / \
 /// No call of the chip has this number.
 const NONE: u64 = 1000;
 
-/// A row: its name, how often a block is written first, its tables, the number of the call of the chip that fails, and what is
-/// counted.
+/// A row: its name, how often a block is written first, its tables, the number of the call of the chip that fails, and
+/// what is counted.
 type Row = (
     &'static str,
     usize,

@@ -1,5 +1,5 @@
-//! Resets and failed calls of the chip at each place of a trace: inside its first scan, inside writes, reads and a collection,
-//! and around a reset. The transcripts are judged by `oracle`.
+//! Resets and failed calls of the chip at each place of a trace: inside its first scan, inside writes, reads and a
+//! collection, and around a reset. The transcripts are judged by `oracle`.
 use super::*;
 use crate::hostile_tests::{push_lines, replay};
 use crate::oracle::counts::Counts;
@@ -7,10 +7,11 @@ use std::alloc::Global;
 use std::process::Abort;
 use std::test::Fail;
 
-/// Lines, and how often each stands. LBA 0 to 3 are written on pages 0 to 3, LBA 0 and 1 anew on 4 and 5. The collector reads
-/// page 2; LBA 2 is written on page 6 before it goes on, so it moves LBA 3 alone, to page 7, and erases pages 0 to 3. LBA 1
-/// and 2 are written anew there, and the collector moves LBA 0 and 3 to pages 2 and 3. In between blocks are read by entries
-/// that are current, stale, or of pages that are erased. The scan makes 32 calls of the chip, and the lines behind it 25.
+/// Lines, and how often each stands. LBA 0 to 3 are written on pages 0 to 3, LBA 0 and 1 anew on 4 and 5. The collector
+/// reads page 2; LBA 2 is written on page 6 before it goes on, so it moves LBA 3 alone, to page 7, and erases pages 0
+/// to 3. LBA 1 and 2 are written anew there, and the collector moves LBA 0 and 3 to pages 2 and 3. In between blocks
+/// are read by entries that are current, stale, or of pages that are erased. The scan makes 32 calls of the chip, and
+/// the lines behind it 25.
 const SCHEDULE: [(&str, u32); 40] = [
     ("U 01200002 z z 00004000 2a000000 z 04000000 z", 1),
     ("S 1", 33),

@@ -113,12 +113,12 @@ fn whole_block(alloc: Global) -> Result<Script, Fail> {
     Ok(script)
 }
 
-/// A page of a chip that is made by hand: its number, and the logical unit, the LBA and the sequence number in its spare
-/// area. Its block is bytes 11h.
+/// A page of a chip that is made by hand: its number, and the logical unit, the LBA and the sequence number in its
+/// spare area. Its block is bytes 11h.
 pub type Put = (u32, u8, u32, u64);
 
-/// What a run meets: its chip and the pages of it that are written, where reads end early, and which calls fail, by their
-/// numbers from 1. To write a page takes two calls of the chip.
+/// What a run meets: its chip and the pages of it that are written, where reads end early, and which calls fail, by
+/// their numbers from 1. To write a page takes two calls of the chip.
 #[derive(Drop)]
 pub struct Outside {
     pub chip: Geometry,
@@ -332,7 +332,8 @@ fn replay_by_lines(alloc: Global, script: &Script, read: u64, write: u64) -> Res
 #[test]
 fn a_fault_ends_a_replay_behind_what_was_printed(rt: HostRuntime) -> Result<(), Fail> {
     let script = whole_block(rt.alloc())?;
-    // The seventh read gives no line, and there is no eighth. Each write takes what one line prints, the last one the counts.
+    // The seventh read gives no line, and there is no eighth. Each write takes what one line prints, the last one the
+    // counts.
     for (call, read, write) in [
         (1, Status::ReadFault, Status::WriteFault),
         (2, Status::ReadFault, Status::WriteFault),

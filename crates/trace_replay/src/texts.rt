@@ -1,6 +1,6 @@
-//! Texts of traces and transcripts, by words: `z` stands for four bytes 00h, `zeros` for a block of bytes 00h, `block` for
-//! a block of bytes A5h, `11s` and `22s` for a block of these bytes, `T=1,2,3,4,5` for a line with these counts, and `/` for
-//! the end of a line.
+//! Texts of traces and transcripts, by words: `z` stands for four bytes 00h, `zeros` for a block of bytes 00h, `block`
+//! for a block of bytes A5h, `11s` and `22s` for a block of these bytes, `T=1,2,3,4,5` for a line with these counts,
+//! and `/` for the end of a line.
 use std::test::Fail;
 
 /// The bytes of a block.

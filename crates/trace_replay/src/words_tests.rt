@@ -136,7 +136,8 @@ fn words_are_served_or_refused(rt: HostRuntime) -> Result<(), Fail> {
 
 #[test]
 fn the_unit_has_the_named_blocks(rt: HostRuntime) -> Result<(), Fail> {
-    // Block 19 is read, or it is past the unit's last one and the read is answered at once. The last line has the counts.
+    // Block 19 is read, or it is past the unit's last one and the read is answered at once. The last line has the
+    // counts.
     let read = "U 01400001 z z 00001000 28000000 00130000 01000000 z";
     for (words, lines) in [
         ("replay --blocks 8 --pages 4", 2),

@@ -43,8 +43,8 @@ fn read_count<'a>(text: &'a [u8], name: &[u8]) -> Result<(u64, &'a [u8]), Stop> 
 /// What the lines of a transcript show of the counts.
 #[derive(Clone, Copy)]
 pub struct Seen {
-    /// The UPIUs that steps sent, the blocks that they programmed for a write which was answered GOOD, and the pages that
-    /// they scanned.
+    /// The UPIUs that steps sent, the blocks that they programmed for a write which was answered GOOD, and the pages
+    /// that they scanned.
     steps: u64,
     /// The blocks that reads sent, those of them that had an entry, and those whose entry was fresh.
     blocks: u64,
@@ -98,9 +98,9 @@ impl Seen {
         self.count_steps(blocks);
     }
 
-    /// Whether a device of these sizes, whose chip was erased, may have counted this. Each block that was sent was looked up
-    /// or served by its entry, by a fresh one always; a read that failed may have been looked up too. Each page that was
-    /// programmed was erased before, and only pages that were programmed are erased.
+    /// Whether a device of these sizes, whose chip was erased, may have counted this. Each block that was sent was
+    /// looked up or served by its entry, by a fresh one always; a read that failed may have been looked up too. Each
+    /// page that was programmed was erased before, and only pages that were programmed are erased.
     pub fn allows(&self, told: Counts, sizes: Sizes) -> bool {
         let served = told.lookups.saturating_add(told.entries);
         let erased = told.erased.saturating_mul(u64::from(sizes.block_pages));

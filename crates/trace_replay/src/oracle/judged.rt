@@ -106,7 +106,8 @@ const JUDGED: [Judged; 85] = [
     (&[READ, "! read", READ_FAILED], RESTS),
     // The chip fails while it is scanned, once under a task.
     (&["! read", READ, "! read", CHIP_FAILED], RESTS),
-    // The collector makes room for a write, and works where no task is kept. A call of it that fails there ends no task.
+    // The collector makes room for a write, and works where no task is kept. A call of it that fails there ends no
+    // task.
     (
         &[WRITE, ASKED, DATA, "M 0", WRITTEN, "M 0", "! read"],
         RESTS,

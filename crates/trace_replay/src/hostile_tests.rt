@@ -151,7 +151,8 @@ fn replay_over(alloc: Global, chip: Chip, trace: &[u8], calls: &[u64]) -> Result
     outside.chip = chip.geometry;
     outside.calls.extend_from_slice(calls)?;
     let ran = run_words(alloc, chip.words, trace, outside)?;
-    let end = match ran.status {
+    let status = ran.status;
+    let end = match status {
         Status::BadLine(number) => format!(in alloc; "E line {number}\n")?,
         _ => String::new(alloc),
     };
@@ -159,10 +160,7 @@ fn replay_over(alloc: Global, chip: Chip, trace: &[u8], calls: &[u64]) -> Result
         return Err(Fail::new("the last line isn't that of the status"));
     };
     let (verdict, counts) = judge(alloc, chip.sizes, text)?;
-    if matches!(ran.status, Status::Done)
-        && matches!(verdict, Verdict::Sound { .. })
-        && counts.is_none()
-    {
+    if status == Status::Done && matches!(verdict, Verdict::Sound { .. }) && counts.is_none() {
         return Err(Fail::new("nothing is counted"));
     }
     let events = if counts.is_some() {
@@ -171,7 +169,7 @@ fn replay_over(alloc: Global, chip: Chip, trace: &[u8], calls: &[u64]) -> Result
         text
     };
     Ok(Ran {
-        status: ran.status,
+        status,
         text: events.to_vec(alloc)?,
         verdict,
         counts,

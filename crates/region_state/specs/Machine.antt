@@ -6,7 +6,8 @@ use Rattle.region_state.specs.declared.shape.Mode.TheVariants.{Device, Host}
 use Rattle.region_state.specs.declared.shape.Shape.{Shape}
 use Rattle.region_state.specs.Lists.{has, without, with_first, to_front, each_within}
 use Rattle.region_state.specs.Shape.{region_of, subregion_of, subregion_count, per_region, number_of}
-use Rattle.region_state.specs.Subregion.{Subregion, unloaded, just_loaded, read_counted, write_counted, recounted, is_due}
+use Rattle.region_state.specs.declared.subregion.Subregion.{Subregion}
+use Rattle.region_state.specs.Subregion.{unloaded, just_loaded, read_counted, write_counted, recounted, is_due}
 
 -- the regions that the host holds, most recent first; the subregions by their numbers in the unit;
 -- the regions that the host is to give up; whether the host is to forget all
@@ -22,7 +23,7 @@ abbrev pub start : Shape → Machine
 start shape =
     record { shape = shape; held = []; subregions = replicate (subregion_count shape) unloaded; gone = []; news = false }
 
--- after a read of n blocks: the regions that it touches come first, the lowest number first of all,
+-- after a read of n blocks: the regions that it touches come to the front in turn, from the lowest number on,
 -- and a read without an entry counts at each subregion that it touches
 unfoldable pub after_read : Machine → ℕ → ℕ → Bool → Machine
 after_read m lba n plain =

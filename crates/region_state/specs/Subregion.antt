@@ -1,10 +1,6 @@
 -- What a device counts of a subregion. The limits of the counts are this project's own.
-use Rattle.std.specs.Prelude.{ℕ, ◌+◌, ◌==◌, Bool, min, if◌then◌else◌, true, false}
-
--- whether the host holds it, and how often it was read or changed since
-pub record Subregion : Type 0 where
-  pub loaded : Bool
-  pub count : ℕ
+use Rattle.std.specs.Prelude.{◌+◌, ◌==◌, Bool, min, if◌then◌else◌, true, false}
+use Rattle.region_state.specs.declared.subregion.Subregion.{Subregion}
 
 -- what the host doesn't hold, and what it has just loaded
 abbrev pub unloaded : Subregion

@@ -1,2 +1,1 @@
 pub mod Rejects
-pub mod NeverGood

@@ -20,7 +20,6 @@ pub mod Harmless
 pub mod Stands
 pub mod Lists
 pub mod Hints
-pub mod Hintless
 pub mod Entries
 pub mod Counts
 pub mod Replays

@@ -1,5 +1,5 @@
 -- The lists of entries that a device keeps: none after a reset, and none where it doesn't serve WRITE BUFFER.
-use Rattle.std.proofs.Common.{◌≡◌, ℕ, ◌+◌, Bool, true, false, not, ◌==◌, List, [], ◌∷◌, ◌++◌, filter, Option, Some, None, Result, Ok, Err, refl, sym, ◌∙◌, ap}
+use Rattle.std.proofs.Common.{◌≡◌, ℕ, ◌+◌, Bool, true, false, not, ◌&&◌, ◌||◌, ◌==◌, List, [], ◌∷◌, ◌++◌, filter, Option, Some, None, Result, Ok, Err, refl, sym, ◌∙◌, ap}
 use Rattle.std.specs.Prelude.{slice_index, if◌then◌else◌}
 use Rattle.std.specs.List.{AllByRecursion, list_any}
 use Rattle.std.proofs.lemmas.Bool.{false≢true}
@@ -16,7 +16,7 @@ use Rattle.upiu_wire.specs.declared.kind.Kind.TheVariants.{Command, DataOut, Res
 use Rattle.upiu_wire.specs.Upiu.{Upiu, upiu_at}
 use Rattle.flat_unit.specs.declared.event.Event.{Event}
 use Rattle.flat_unit.specs.declared.event.Event.TheVariants.{Host, Device, Reset, Moved, Failed, Gone}
-use Rattle.flat_unit.specs.Command.{command_of}
+use Rattle.flat_unit.specs.Command.{begins_prefetch, command_of, serves_command}
 use Rattle.flat_unit.specs.Contents.{Leaving, answered, leaving_all}
 use Rattle.flat_unit.specs.History.{History, ◌▹◌}
 use Rattle.flat_unit.specs.Lists.{Fetched, entry_of_block, lists_after, lists_changed, lists_left, lists_left_by}
@@ -48,26 +48,32 @@ is_prefetch _ = false
 abbrev BringsNone : Task → Type 0
 BringsNone task = is_prefetch task.command ≡ false
 
--- the opcode isn't served
+-- no prefetch is served
 abbrev NoPrefetch : Sizes → Type 0
-NoPrefetch s = list_any (λ (opcode : ℕ). opcode == 0xFA) s.opcodes ≡ false
+NoPrefetch s = s.prefetches ≡ false
 
 -- a command that is served is no prefetch
-spelled : (cdb : List ℕ) (command : Cdb) → Spells cdb command → is_prefetch command ≡ true → slice_index cdb 0 ≡ 0xFA
-spelled cdb (Prefetch lba id len) spells is = spells.0
+spelled : (cdb : List ℕ) (command : Cdb) → Spells cdb command → is_prefetch command ≡ true → begins_prefetch cdb ≡ true
+spelled cdb (Prefetch lba id len) spells is = rw (spells.0, spells.1) refl
 spelled cdb _ spells is = cc
 
-served : (s : Sizes) (cdb : List ℕ) (command : Cdb) → NoPrefetch s → command_of s cdb ≡ Ok command → is_prefetch command ≡ false
-served s cdb command none = by_opcode (list_any (λ (opcode : ℕ). opcode == slice_index cdb 0) s.opcodes) refl
-  where
-    no_prefetch : list_any (λ (opcode : ℕ). opcode == slice_index cdb 0) s.opcodes ≡ true → Spells cdb command → (b : Bool) → is_prefetch command ≡ b → b ≡ false
-    no_prefetch has spells false is = refl
-    no_prefetch has spells true is =
-        absurd (false≢true (sym none ∙ ap (λ (n : ℕ). list_any (λ (opcode : ℕ). opcode == n) s.opcodes) (sym (spelled cdb command spells is)) ∙ has))
+no_prefetch : (opcode prefetches begins : Bool) → prefetches ≡ false → (opcode && (prefetches || not begins)) ≡ true → begins ≡ true → ⊥
+no_prefetch true false true none serves is = false≢true serves
+no_prefetch true false false none serves is = false≢true is
+no_prefetch true true begins none serves is = false≢true (sym none)
+no_prefetch false prefetches begins none serves is = false≢true serves
 
-    by_opcode : (b : Bool) → list_any (λ (opcode : ℕ). opcode == slice_index cdb 0) s.opcodes ≡ b → (if b then cdb_of (limits_of s) cdb else Err Opcode) ≡ Ok command → is_prefetch command ≡ false
+served : (s : Sizes) (cdb : List ℕ) (command : Cdb) → NoPrefetch s → command_of s cdb ≡ Ok command → is_prefetch command ≡ false
+served s cdb command none = by_opcode (serves_command s cdb) refl
+  where
+    by_command : serves_command s cdb ≡ true → Spells cdb command → (b : Bool) → is_prefetch command ≡ b → b ≡ false
+    by_command has spells false is = refl
+    by_command has spells true is =
+        absurd (no_prefetch (list_any (λ (opcode : ℕ). opcode == slice_index cdb 0) s.opcodes) s.prefetches (begins_prefetch cdb) none has (spelled cdb command spells is))
+
+    by_opcode : (b : Bool) → serves_command s cdb ≡ b → (if b then cdb_of (limits_of s) cdb else Err Opcode) ≡ Ok command → is_prefetch command ≡ false
     by_opcode false has reads = cc
-    by_opcode true has reads = no_prefetch has (is_cdb-cdb_of (limits_of s) cdb command reads).spells (is_prefetch command) refl
+    by_opcode true has reads = by_command has (is_cdb-cdb_of (limits_of s) cdb command reads).spells (is_prefetch command) refl
 
 -- the tasks after one more event
 one_more : (tasks : List Task) (new : Task) → AllByRecursion BringsNone tasks → BringsNone new → AllByRecursion BringsNone (tasks ++ new ∷ [])
@@ -139,7 +145,7 @@ none_changed tasks (Device bytes) all = left_by_answer (upiu_at bytes).kind (upi
 none_changed tasks _ all = refl
 
 -- no list is kept after any history
-pub no_lists : (s : Sizes) (e : History) → list_any (λ (opcode : ℕ). opcode == 0xFA) s.opcodes ≡ false → lists_after s e ≡ []
+pub no_lists : (s : Sizes) (e : History) → s.prefetches ≡ false → lists_after s e ≡ []
 no_lists s [] none = refl
 no_lists s (x ∷ e) none =
     ap (λ (lists : List Fetched). lists_changed (tasks_after s e) lists x) (no_lists s e none)

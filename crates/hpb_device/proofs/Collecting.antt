@@ -26,7 +26,6 @@ use Rattle.flat_unit.specs.Pages.{HasPages}
 use Rattle.flat_unit.specs.Replays.{events_of}
 use Rattle.flat_unit.specs.Sizes.{Sizes}
 use Rattle.flat_unit.specs.Stands.{First, Kept}
-use Rattle.flat_unit.specs.Writes.{moves}
 use Rattle.flat_unit.proofs.entries.Fresh.{fresh_along, fresh_collected}
 use Rattle.flat_unit.proofs.entries.Pages.{pages_along, pages_moved, pages_reset}
 use Rattle.flat_unit.proofs.standing.OneCall.{same_place, stands_erased, stands_failed, stands_moved, stands_reset}
@@ -42,6 +41,7 @@ use Rattle.hpb_device.specs.Counts.{counted_moved, counted_step}
 use Rattle.hpb_device.specs.Entries.{EntriesStand, TriedStale}
 use Rattle.hpb_device.specs.Keeps.{KeepsTasks, waiting_of}
 use Rattle.hpb_device.specs.Listed.{ListingStands, kept_now}
+use Rattle.hpb_device.specs.Regions.{regions_moved}
 use Rattle.hpb_device.specs.Standing.{DeviceStands, DeviceStandsForeign, group_of, kept_of, programmed_of, sizes_of}
 use Rattle.hpb_device.specs.State.{DeviceState, IsSound}
 use Rattle.hpb_device.proofs.Entries.{entries_now, tried_stays}
@@ -275,15 +275,16 @@ module _ (old new : DeviceState) (is : IsCollecting old new) where
   pub moves_on_by : (moved : Moved) (result : Stepped) → moved ≢ Idle → IsCollected old.store moved new.store
       → Changes old.store.geometry old.store.luns old.store.units old.store.pages (as_collected moved) new.store.pages
       → new.store.calls ≡ raised old.store.calls → new.store.hits ≡ old.store.hits
-      → new.store.faults ≡ old.store.faults → new.counts ≡ counted_moved old.counts moved → result ≡ stepped None (moved_by moved) false → Collects old new result
-  moves_on_by moved result busy step changes calls hits faults counts result_is = on_false result.idle (record {
+      → new.store.faults ≡ old.store.faults → new.regions ≡ regions_moved old.shape old.regions moved → new.counts ≡ counted_moved old.counts moved
+      → result ≡ stepped None (moved_by moved) false → Collects old new result
+  moves_on_by moved result busy step changes calls hits faults regions counts result_is = on_false result.idle (record {
     phase = is.ready;
     same = is.same;
     tasks = is.tasks;
     held = is.held;
     calls = calls;
     hits = hits;
-    outcome = inl (moved, record { busy = busy; step = step; changes = changes; faults = faults; counts = counts; result_is = result_is });
+    outcome = inl (moved, record { busy = busy; step = step; changes = changes; faults = faults; regions = regions; counts = counts; result_is = result_is });
   })
 
   -- where none is left after it, there is nothing to collect, or no sequence number
@@ -305,30 +306,13 @@ idle_leaves_none old new step =
     let g = old.store.geometry in
     ap (λ (t : Step). if is_idle t.did then 0 else left_with g s.chip s.buffer s.victim) step
 
--- the pages that a step of the collector moved, where they are counted
-pub moves_told : (counts : Counts) (moved : Moved) (out : List ℕ) (n : ℕ) → counts.moved ≡ min n (2 ^ 64 - 1)
-    → (counted_moved counts moved).moved ≡ min (n + moves (moves_on moved out [])) (2 ^ 64 - 1)
-moves_told counts Idle out n at = omega (arith, at)
-moves_told counts ReadPage out n at = omega (arith, at)
-moves_told counts (MovedPage lun lba) out n at = omega (arith, at)
-moves_told counts (ErasedBlock block) out n at = omega (arith, at)
-
 same_steps : (counts : Counts) (moved : Moved) → (counted_moved counts moved).steps ≡ counts.steps
 same_steps counts Idle = refl
 same_steps counts ReadPage = refl
 same_steps counts (MovedPage lun lba) = refl
 same_steps counts (ErasedBlock block) = refl
 
--- what a call of `collect` counts
-pub collect_moves_counted : (old new : DeviceState) (result : Stepped) (n : ℕ) → CollectsOn old new result → old.counts.moved ≡ min n (2 ^ 64 - 1)
-    → new.counts.moved ≡ min (n + moves (followed_by [] (events_of (group_of result [])))) (2 ^ 64 - 1)
-collect_moves_counted old new result n collects at = elim collects.outcome [
-  | inl step ↦ rw (step.1.result_is) (ap (λ (c : Counts). c.moved) step.1.counts ∙ moves_told old.counts step.0 [] n at)
-  | inr fault ↦
-      let same : new.counts.moved ≡ old.counts.moved = ap (λ (c : Counts). c.moved) fault.1.counts in
-      rw (fault.1.result_is) (omega (arith, same, at))
-]
-
+-- what a call of `collect` counts: no step
 pub collect_steps_counted : (old new : DeviceState) (result : Stepped) → CollectsOn old new result → new.counts.steps ≡ old.counts.steps
 collect_steps_counted old new result collects = elim collects.outcome [
   | inl step ↦ ap (λ (c : Counts). c.steps) step.1.counts ∙ same_steps old.counts step.0

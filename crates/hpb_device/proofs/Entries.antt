@@ -59,7 +59,7 @@ use Rattle.hpb_cdb.specs.declared.limits.Limits.{Limits}
 use Rattle.flat_unit.specs.Replays.{events_of}
 use Rattle.flat_unit.specs.History.{followed_by}
 use Rattle.std.specs.Prelude.{slice_range, slice_set}
-use Rattle.hpb_device.specs.Reply.{reply_upiu}
+use Rattle.hpb_device.specs.Reply.{reply_upiu, told_upiu}
 use Rattle.hpb_device.specs.Advance.{Tells}
 
 -- an event that lists nothing
@@ -111,6 +111,22 @@ reply_lists_none s e reply p = by_tasks (tasks_after s e) reply
     by_tasks (task ∷ others) (Good lun tag residual) = refl
     by_tasks (task ∷ others) (TaskSetFull lun tag residual) = refl
     by_tasks (task ∷ others) (Check lun tag residual cause) = refl
+
+-- nor does GOOD with a hint
+pub answer_lists_none : (s : Sizes) (e : History) (segment : List ℕ) (reply : Reply) → ListsNone s e (Device (upiu_out (told_upiu segment reply)))
+unfolding upiu_out upiu_at kind_of
+answer_lists_none s e segment (Good lun tag residual) p = by_tasks (tasks_after s e)
+  where
+    by_tasks : (tasks : List Waiting) → listed s tasks (Device (upiu_out (told_upiu segment (Good lun tag residual)))) p ≡ None
+    by_tasks [] = refl
+    by_tasks (task ∷ others) = refl
+answer_lists_none s e segment (NopIn tag) p = reply_lists_none s e (NopIn tag) p
+answer_lists_none s e segment (Reject lun tag reason) p = reply_lists_none s e (Reject lun tag reason) p
+answer_lists_none s e segment (TaskSetFull lun tag residual) p = reply_lists_none s e (TaskSetFull lun tag residual) p
+answer_lists_none s e segment (Check lun tag residual cause) p = reply_lists_none s e (Check lun tag residual cause) p
+
+pub same_lists_none : (s : Sizes) (e : History) (out bytes : List ℕ) → out ≡ bytes → ListsNone s e (Device bytes) → ListsNone s e (Device out)
+same_lists_none s e out bytes sent none = subst (λ (b : List ℕ). ListsNone s e (Device b)) (sym sent) none
 
 pub transfer_lists_none : (s : Sizes) (e : History) (lun tag offset count : ℕ) → ListsNone s e (Device (upiu_out (transfer_upiu ReadyToTransfer lun tag offset count)))
 unfolding upiu_out upiu_at kind_of
@@ -384,29 +400,29 @@ programmed_entries turn rest start programs head stand =
     (untried_task s turn.history rest turn.others turn.new.tasks head (λ e. subst (IsStale s e rest) (sym command) tt))
 
 -- after the first task ended
-pub ended_entries : (turn : Turn) (reply : Reply) (out : List ℕ) (e : History) → out ≡ upiu_out (reply_upiu reply) → turn.new.store.pages ≡ turn.old.store.pages → turn.new.tasks ≡ turn.others
+pub ended_entries : (turn : Turn) (out : List ℕ) (e : History) → ListsNone (sizes_of turn.old) e (Device out) → turn.new.store.pages ≡ turn.old.store.pages → turn.new.tasks ≡ turn.others
     → FreshHonoured (sizes_of turn.old) turn.old.store.pages e → EntriesStand turn.new (e ▹ Device out)
-ended_entries turn reply out e sent pages left fresh =
+ended_entries turn out e none pages left fresh =
     let s = sizes_of turn.old in
-    let none : ListsNone s e (Device out) = subst (λ (b : List ℕ). ListsNone s e (Device b)) (sym sent) (reply_lists_none s e reply) in
     entries_now turn.old turn.new (e ▹ Device out) turn.same turn.shape
     (rw pages (honoured_stays s turn.old.store.pages e (Device out) none fresh))
     (waiting_untried turn.old.store.luns (limits_of turn.old.shape) s (e ▹ Device out) turn.others turn.new.tasks left turn.ready.waiting)
 
 -- what a step leaves
-pub stepped_entries : (turn : Turn) (progress : Progress) (result : Stepped) (out : List ℕ) → IsOfTask progress
+pub stepped_entries : (segment : List ℕ) (turn : Turn) (progress : Progress) (result : Stepped) (out : List ℕ) → IsOfTask progress
     → Advances (limits_of turn.old.shape) turn.old.store turn.new.store turn.old.held turn.new.held turn.task progress out
-    → Leaves progress turn.others turn.new.tasks turn.new.held result out → EntriesStand turn.old turn.history → EntriesStand turn.new (followed_by turn.history (events_of (group_of result out)))
-stepped_entries turn (Sends what rest) result out own advances leaves stand =
+    → Leaves progress segment turn.others turn.new.tasks turn.new.held result out → EntriesStand turn.old turn.history → EntriesStand turn.new (followed_by turn.history (events_of (group_of result out)))
+stepped_entries segment turn (Sends what rest) result out own advances leaves stand =
     rw (leaves.1) (sent_entries turn what rest out advances.0 (pages_of turn.old.store turn.new.store advances.1) leaves.0 stand)
-stepped_entries turn (Silent Missed rest) result out own advances leaves stand =
+stepped_entries segment turn (Silent Missed rest) result out own advances leaves stand =
     rw (leaves.1) (missed_entries turn rest advances.0.0 (pages_of turn.old.store turn.new.store advances.0.1) leaves.0 stand)
-stepped_entries turn (Silent Programmed rest) result out own advances leaves stand = rw (leaves.1) (programmed_entries turn rest advances.0.0 advances.0.1 leaves.0 stand)
-stepped_entries turn (Silent (Collected moved) rest) result out own advances leaves stand = absurd own
-stepped_entries turn (Ended reply) result out own advances leaves stand =
-    rw (leaves.2) (ended_entries turn reply out turn.history leaves.3 (pages_of turn.old.store turn.new.store advances.1) leaves.0 stand.fresh)
-stepped_entries turn (Failed what reply) result out own advances leaves stand =
-    rw (leaves.2) (ended_entries turn reply out (turn.history ▹ CallFailed (op_of what)) leaves.3 advances.1 leaves.0
+stepped_entries segment turn (Silent Programmed rest) result out own advances leaves stand = rw (leaves.1) (programmed_entries turn rest advances.0.0 advances.0.1 leaves.0 stand)
+stepped_entries segment turn (Silent (Collected moved) rest) result out own advances leaves stand = absurd own
+stepped_entries segment turn (Ended reply) result out own advances leaves stand =
+    rw (leaves.2) (ended_entries turn out turn.history (same_lists_none (sizes_of turn.old) turn.history out _ leaves.3 (answer_lists_none (sizes_of turn.old) turn.history segment reply)) (pages_of turn.old.store turn.new.store advances.1) leaves.0 stand.fresh)
+stepped_entries segment turn (Failed what reply) result out own advances leaves stand =
+    rw (leaves.2) (ended_entries turn out (turn.history ▹ CallFailed (op_of what))
+    (same_lists_none (sizes_of turn.old) (turn.history ▹ CallFailed (op_of what)) out _ leaves.3 (reply_lists_none (sizes_of turn.old) (turn.history ▹ CallFailed (op_of what)) reply)) advances.1 leaves.0
     (honoured_stays (sizes_of turn.old) turn.old.store.pages turn.history (CallFailed (op_of what)) (λ p. refl) stand.fresh))
 
 -- the bytes of the host list nothing

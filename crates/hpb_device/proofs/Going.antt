@@ -1,5 +1,5 @@
 -- What a step of a device tells, and where it leaves the device, whatever its command.
-use Rattle.std.proofs.Common.{◌≡◌, ◌⊎◌, ℕ, ◌+◌, ◌-◌, ◌*◌, ◌^◌, ◌<◌, ◌≤◌, min, true, false, nat_lt, List, [], ◌∷◌, map, Option, Some, None, refl, sym, ◌∙◌, ap, subst, arith, inl, inr}
+use Rattle.std.proofs.Common.{◌≡◌, ◌⊎◌, ℕ, ◌+◌, ◌-◌, ◌*◌, ◌<◌, ◌≤◌, true, false, nat_lt, List, [], ◌∷◌, map, Option, Some, None, refl, sym, ◌∙◌, ap, subst, arith, inl, inr}
 use Rattle.std.proofs.lemmas.Bool.{false≢true, or_parts}
 use Rattle.std.proofs.lemmas.Bool.Decides.{nat_tests}
 use Rattle.std.specs.Prelude.{if◌then◌else◌, is_none, is_some}
@@ -27,7 +27,6 @@ use Rattle.flat_unit.specs.Queue.{at_rest}
 use Rattle.flat_unit.specs.Replays.{IsGroup, events_of, has_asked, keeps_write}
 use Rattle.flat_unit.specs.Stands.{First, Stands}
 use Rattle.flat_unit.specs.Task.{Task as Waiting}
-use Rattle.flat_unit.specs.Writes.{moves}
 use Rattle.flat_unit.proofs.standing.Foreign.{foreign_begun}
 use Rattle.flat_unit.proofs.standing.OneCall.{stands_begun}
 use Rattle.flash_pages.specs.Chip.{erased_count}
@@ -50,7 +49,6 @@ use Rattle.hpb_device.specs.Standing.{DeviceStands, DeviceStandsForeign, first_o
 use Rattle.hpb_device.specs.State.{DeviceState, AreAtRest, AtRest, IsSound}
 use Rattle.hpb_device.specs.StoreCounts.{CountsFault}
 use Rattle.hpb_device.specs.Task.{IsTaskOk, IsWaiting, tries_entry}
-use Rattle.hpb_device.proofs.Collecting.{moves_told}
 use Rattle.hpb_device.proofs.Commands.{is_written}
 pub use Rattle.hpb_device.proofs.Failures.{none_failed, one_failed}
 use Rattle.hpb_device.proofs.Failures.{moved_fails_none}
@@ -72,15 +70,15 @@ check_tells lun tag residual DataNotAsked = refl
 check_tells lun tag residual ChipFailed = refl
 
 -- the failures that a step tells are those that the count of faults has
-fails_by : (before now : ℕ) (progress : Progress) (others tasks : List Task) (held : List ℕ) (result : Stepped) (out : List ℕ) → CountsFault before now progress
-    → Leaves progress others tasks held result out
+fails_by : (segment : List ℕ) (before now : ℕ) (progress : Progress) (others tasks : List Task) (held : List ℕ) (result : Stepped) (out : List ℕ) → CountsFault before now progress
+    → Leaves progress segment others tasks held result out
     → FailuresAre before now (followed_by [] (events_of (group_of result out)))
-fails_by before now (Sends what rest) others tasks held result out counts leaves = rw (leaves.1) (none_failed before now _ refl counts)
-fails_by before now (Silent (Collected moved) rest) others tasks held result out counts leaves = rw (leaves.1) (none_failed before now _ (moved_fails_none moved out) counts)
-fails_by before now (Silent Missed rest) others tasks held result out counts leaves = rw (leaves.1) (none_failed before now _ refl counts)
-fails_by before now (Silent Programmed rest) others tasks held result out counts leaves = rw (leaves.1) (none_failed before now _ refl counts)
-fails_by before now (Ended reply) others tasks held result out counts leaves = rw (leaves.2) (none_failed before now _ refl counts)
-fails_by before now (Failed what reply) others tasks held result out counts leaves = rw (leaves.2) (one_failed before now _ refl counts.0 counts.1)
+fails_by segment before now (Sends what rest) others tasks held result out counts leaves = rw (leaves.1) (none_failed before now _ refl counts)
+fails_by segment before now (Silent (Collected moved) rest) others tasks held result out counts leaves = rw (leaves.1) (none_failed before now _ (moved_fails_none moved out) counts)
+fails_by segment before now (Silent Missed rest) others tasks held result out counts leaves = rw (leaves.1) (none_failed before now _ refl counts)
+fails_by segment before now (Silent Programmed rest) others tasks held result out counts leaves = rw (leaves.1) (none_failed before now _ refl counts)
+fails_by segment before now (Ended reply) others tasks held result out counts leaves = rw (leaves.2) (none_failed before now _ refl counts)
+fails_by segment before now (Failed what reply) others tasks held result out counts leaves = rw (leaves.2) (one_failed before now _ refl counts.0 counts.1)
 
 unread_fails : (before now : ℕ) (tasks left : List Task) (op : ChipOp) (result : Stepped) (out : List ℕ) → EndsUnread (Some op) tasks left result out → Rose before now → now ≤ before + 1
     → FailuresAre before now (followed_by [] (events_of (group_of result out)))
@@ -98,7 +96,7 @@ going_fails Scanning old new result out scans = elim scans.outcome [
   | inl reads ↦ rw (reads.result_is) (none_failed old.store.faults new.store.faults _ refl reads.faults)
   | inr misses ↦ unread_fails old.store.faults new.store.faults old.tasks new.tasks ReadCall result out misses.ends misses.faults.0 misses.faults.1
 ]
-going_fails Ready old new result out goes = fails_by old.store.faults new.store.faults goes.progress goes.others new.tasks new.held result out goes.calls.faults goes.leaves
+going_fails Ready old new result out goes = fails_by _ old.store.faults new.store.faults goes.progress goes.others new.tasks new.held result out goes.calls.faults goes.leaves
 going_fails Foreign old new result out refuses =
     unread_fails_none old.store.faults new.store.faults old.tasks new.tasks result out refuses.ends (ap (λ (z : StoreState). z.faults) refuses.store)
 
@@ -109,13 +107,13 @@ moved_group ReadPage out = inr refl
 moved_group (MovedPage lun lba) out = inl (refl, refl)
 moved_group (ErasedBlock block) out = inr refl
 
-group_by : (progress : Progress) (others tasks : List Task) (held : List ℕ) (result : Stepped) (out : List ℕ) → Leaves progress others tasks held result out → IsGroup (group_of result out)
-group_by (Sends what rest) others tasks held result out leaves = rw (leaves.1) (inr refl)
-group_by (Silent (Collected moved) rest) others tasks held result out leaves = rw (leaves.1) (moved_group moved out)
-group_by (Silent Missed rest) others tasks held result out leaves = rw (leaves.1) (inr refl)
-group_by (Silent Programmed rest) others tasks held result out leaves = rw (leaves.1) (inr refl)
-group_by (Ended reply) others tasks held result out leaves = rw (leaves.2) (inr refl)
-group_by (Failed what reply) others tasks held result out leaves = rw (leaves.2) (inr refl)
+group_by : (segment : List ℕ) (progress : Progress) (others tasks : List Task) (held : List ℕ) (result : Stepped) (out : List ℕ) → Leaves progress segment others tasks held result out → IsGroup (group_of result out)
+group_by segment (Sends what rest) others tasks held result out leaves = rw (leaves.1) (inr refl)
+group_by segment (Silent (Collected moved) rest) others tasks held result out leaves = rw (leaves.1) (moved_group moved out)
+group_by segment (Silent Missed rest) others tasks held result out leaves = rw (leaves.1) (inr refl)
+group_by segment (Silent Programmed rest) others tasks held result out leaves = rw (leaves.1) (inr refl)
+group_by segment (Ended reply) others tasks held result out leaves = rw (leaves.2) (inr refl)
+group_by segment (Failed what reply) others tasks held result out leaves = rw (leaves.2) (inr refl)
 
 unread_group : (failed : Option ChipOp) (tasks left : List Task) (result : Stepped) (out : List ℕ) → EndsUnread failed tasks left result out → IsGroup (group_of result out)
 unread_group failed [] left result out ends = rw (ends.1) (inr refl)
@@ -126,7 +124,7 @@ going_group Scanning old new result out scans = elim scans.outcome [
   | inl reads ↦ rw (reads.result_is) (inr refl)
   | inr misses ↦ unread_group (Some ReadCall) old.tasks new.tasks result out misses.ends
 ]
-going_group Ready old new result out goes = group_by goes.progress goes.others new.tasks new.held result out goes.leaves
+going_group Ready old new result out goes = group_by _ goes.progress goes.others new.tasks new.held result out goes.leaves
 going_group Foreign old new result out refuses = unread_group None old.tasks new.tasks result out refuses.ends
 
 -- the device serves the same blocks behind a step
@@ -267,25 +265,25 @@ has_asked_data held luns lim kept task others at ok more =
 pub sent_or_silent : (result : Stepped) (failed : Option ChipOp) → result ≡ stepped failed None true → result.sent ≡ false → ⊥
 sent_or_silent result failed is silent = false≢true (sym silent ∙ ap (λ (r : Stepped). r.sent) is)
 
-silent_by : (old new : DeviceState) (task : Task) (others : List Task) (progress : Progress) (result : Stepped) (out : List ℕ) (tasks : List Waiting)
+silent_by : (segment : List ℕ) (old new : DeviceState) (task : Task) (others : List Task) (progress : Progress) (result : Stepped) (out : List ℕ) (tasks : List Waiting)
     → IsTaskOk old.store.luns (limits_of old.shape) task
-    → Advances (limits_of old.shape) old.store new.store old.held new.held task progress out → Leaves progress others new.tasks new.held result out → KeepsTasks (task ∷ others) old.held tasks
+    → Advances (limits_of old.shape) old.store new.store old.held new.held task progress out → Leaves progress segment others new.tasks new.held result out → KeepsTasks (task ∷ others) old.held tasks
     → result.sent ≡ false
     → (has_asked tasks ≡ true) ⊎ (tries_entry task ≡ true)
-silent_by old new task others (Sends what rest) result out tasks ok advances leaves keeps silent = absurd (sent_or_silent result _ leaves.1 silent)
-silent_by old new task others (Silent Missed rest) result out tasks ok advances leaves keeps silent = inr advances.0.0.tries
-silent_by old new task others (Silent Programmed rest) result out tasks ok advances leaves keeps silent =
+silent_by segment old new task others (Sends what rest) result out tasks ok advances leaves keeps silent = absurd (sent_or_silent result _ leaves.1 silent)
+silent_by segment old new task others (Silent Missed rest) result out tasks ok advances leaves keeps silent = inr advances.0.0.tries
+silent_by segment old new task others (Silent Programmed rest) result out tasks ok advances leaves keeps silent =
     inl (subst (λ (ts : List Waiting). has_asked ts ≡ true) (sym keeps.2) (has_asked_data old.held old.store.luns (limits_of old.shape) task keeps.0 (map waiting_of others) keeps.1 ok advances.0.1.more))
-silent_by old new task others (Silent (Collected moved) rest) result out tasks ok advances leaves keeps silent =
+silent_by segment old new task others (Silent (Collected moved) rest) result out tasks ok advances leaves keeps silent =
     inl (subst (λ (ts : List Waiting). has_asked ts ≡ true) (sym keeps.2) (has_asked_data old.held old.store.luns (limits_of old.shape) task keeps.0 (map waiting_of others) keeps.1 ok advances.0.more))
-silent_by old new task others (Ended reply) result out tasks ok advances leaves keeps silent = absurd (sent_or_silent result _ leaves.2 silent)
-silent_by old new task others (Failed what reply) result out tasks ok advances leaves keeps silent = absurd (sent_or_silent result _ leaves.2 silent)
+silent_by segment old new task others (Ended reply) result out tasks ok advances leaves keeps silent = absurd (sent_or_silent result _ leaves.2 silent)
+silent_by segment old new task others (Failed what reply) result out tasks ok advances leaves keeps silent = absurd (sent_or_silent result _ leaves.2 silent)
 
 pub going_is_silent : (old new : DeviceState) (result : Stepped) (out : List ℕ) (tasks : List Waiting) → (goes : GoesOn old new result out) → KeepsTasks old.tasks old.held tasks
     → result.sent ≡ false
     → (has_asked tasks ≡ true) ⊎ (tries_entry goes.task ≡ true)
 going_is_silent old new result out tasks goes keeps silent =
-    silent_by old new goes.task goes.others goes.progress result out tasks goes.ok goes.advances goes.leaves (subst (λ (ts : List Task). KeepsTasks ts old.held tasks) goes.was keeps) silent
+    silent_by _ old new goes.task goes.others goes.progress result out tasks goes.ok goes.advances goes.leaves (subst (λ (ts : List Task). KeepsTasks ts old.held tasks) goes.was keeps) silent
 
 -- a device is at rest where its tasks are
 goes_by : (kept : List Task) (held : List ℕ) (tasks : List Waiting) → KeepsTasks kept held tasks → ¬ AreAtRest kept → at_rest tasks ≡ false
@@ -341,18 +339,18 @@ at_rest_of device other = rest_by device.tasks other
 no_write_kept : (task rest : Task) (others tasks : List Task) → tasks ≡ rest ∷ others → rest.command ≡ task.command → KeepsNoWrite (task ∷ others) → KeepsNoWrite tasks
 no_write_kept task rest others tasks is same none = subst KeepsNoWrite (sym is) (ap is_write same ∙ none.0, none.1)
 
-no_write_by : (lim : Limits) (old new : StoreState) (held held_now : List ℕ) (task : Task) (progress : Progress) (others tasks : List Task) (left : List ℕ) (result : Stepped) (out : List ℕ)
-    → Advances lim old new held held_now task progress out → Leaves progress others tasks left result out → KeepsNoWrite (task ∷ others) → KeepsNoWrite tasks
-no_write_by lim old new held held_now task (Sends what rest) others tasks left result out advances leaves none =
+no_write_by : (segment : List ℕ) (lim : Limits) (old new : StoreState) (held held_now : List ℕ) (task : Task) (progress : Progress) (others tasks : List Task) (left : List ℕ) (result : Stepped) (out : List ℕ)
+    → Advances lim old new held held_now task progress out → Leaves progress segment others tasks left result out → KeepsNoWrite (task ∷ others) → KeepsNoWrite tasks
+no_write_by segment lim old new held held_now task (Sends what rest) others tasks left result out advances leaves none =
     no_write_kept task rest others tasks leaves.0 (same_command lim old what task rest out advances.0) none
-no_write_by lim old new held held_now task (Silent Missed rest) others tasks left result out advances leaves none =
+no_write_by segment lim old new held held_now task (Silent Missed rest) others tasks left result out advances leaves none =
     no_write_kept task rest others tasks leaves.0 (ap (λ (t : Task). t.command) advances.0.0.task_is) none
-no_write_by lim old new held held_now task (Silent Programmed rest) others tasks left result out advances leaves none =
+no_write_by segment lim old new held held_now task (Silent Programmed rest) others tasks left result out advances leaves none =
     no_write_kept task rest others tasks leaves.0 (ap (λ (t : Task). t.command) advances.0.1.task_is) none
-no_write_by lim old new held held_now task (Silent (Collected moved) rest) others tasks left result out advances leaves none =
+no_write_by segment lim old new held held_now task (Silent (Collected moved) rest) others tasks left result out advances leaves none =
     no_write_kept task rest others tasks leaves.0 (ap (λ (t : Task). t.command) advances.0.task_is) none
-no_write_by lim old new held held_now task (Ended reply) others tasks left result out advances leaves none = subst KeepsNoWrite (sym leaves.0) none.1
-no_write_by lim old new held held_now task (Failed what reply) others tasks left result out advances leaves none = subst KeepsNoWrite (sym leaves.0) none.1
+no_write_by segment lim old new held held_now task (Ended reply) others tasks left result out advances leaves none = subst KeepsNoWrite (sym leaves.0) none.1
+no_write_by segment lim old new held held_now task (Failed what reply) others tasks left result out advances leaves none = subst KeepsNoWrite (sym leaves.0) none.1
 
 unread_no_write : (failed : Option ChipOp) (tasks left : List Task) (result : Stepped) (out : List ℕ) → EndsUnread failed tasks left result out → KeepsNoWrite tasks → KeepsNoWrite left
 unread_no_write failed [] left result out ends none = subst KeepsNoWrite (sym ends.0) tt
@@ -364,7 +362,7 @@ going_keeps_no_write Scanning old new result out scans none = elim scans.outcome
   | inr misses ↦ unread_no_write (Some ReadCall) old.tasks new.tasks result out misses.ends none
 ]
 going_keeps_no_write Ready old new result out goes none =
-    no_write_by (limits_of old.shape) old.store new.store old.held new.held goes.task goes.progress goes.others new.tasks new.held result out goes.advances goes.leaves
+    no_write_by _ (limits_of old.shape) old.store new.store old.held new.held goes.task goes.progress goes.others new.tasks new.held result out goes.advances goes.leaves
     (subst KeepsNoWrite goes.was none)
 going_keeps_no_write Foreign old new result out refuses none = unread_no_write None old.tasks new.tasks result out refuses.ends none
 
@@ -401,38 +399,8 @@ going_steps_counted Scanning old new result out scans = let is = ap (λ (c : Cou
 going_steps_counted Ready old new result out goes = let is = ap (λ (c : Counts). c.steps) goes.counts ∙ counted_steps old.counts goes.progress in omega (arith, is)
 going_steps_counted Foreign old new result out refuses = let is = ap (λ (c : Counts). c.steps) refuses.counts in omega (arith, is)
 
--- the pages that the collector moved, where they are counted
-none_moved : (count n : ℕ) → count ≡ min n (2 ^ 64 - 1) → count ≡ min (n + 0) (2 ^ 64 - 1)
-none_moved count n at = omega (arith, at)
-
-moves_by : (counts : Counts) (progress : Progress) (others tasks : List Task) (held : List ℕ) (result : Stepped) (out : List ℕ) (n : ℕ) → Leaves progress others tasks held result out
-    → counts.moved ≡ min n (2 ^ 64 - 1) → (counted counts progress).moved ≡ min (n + moves (followed_by [] (events_of (group_of result out)))) (2 ^ 64 - 1)
-moves_by counts (Sends LookedUp rest) others tasks held result out n leaves at = rw (leaves.1) (none_moved counts.moved n at)
-moves_by counts (Sends ByEntry rest) others tasks held result out n leaves at = rw (leaves.1) (none_moved counts.moved n at)
-moves_by counts (Sends what rest) others tasks held result out n leaves at = rw (leaves.1) (none_moved counts.moved n at)
-moves_by counts (Silent (Collected moved) rest) others tasks held result out n leaves at = rw (leaves.1) (moves_told (counted_step counts) moved out n at)
-moves_by counts (Silent what rest) others tasks held result out n leaves at = rw (leaves.1) (none_moved counts.moved n at)
-moves_by counts (Ended reply) others tasks held result out n leaves at = rw (leaves.2) (none_moved counts.moved n at)
-moves_by counts (Failed MappedRead reply) others tasks held result out n leaves at = rw (leaves.2) (none_moved counts.moved n at)
-moves_by counts (Failed what reply) others tasks held result out n leaves at = rw (leaves.2) (none_moved counts.moved n at)
-
-unread_moves : (failed : Option ChipOp) (tasks left : List Task) (result : Stepped) (out : List ℕ) → EndsUnread failed tasks left result out
-    → moves (followed_by [] (events_of (group_of result out))) ≡ 0
-unread_moves None [] left result out ends = rw (ends.1) refl
-unread_moves None (task ∷ others) left result out ends = rw (ends.1) refl
-unread_moves (Some op) [] left result out ends = rw (ends.1) refl
-unread_moves (Some op) (task ∷ others) left result out ends = rw (ends.1) refl
-
-pub going_moves_counted : (phase : Phase) (old new : DeviceState) (result : Stepped) (out : List ℕ) (n : ℕ) → StepsIn phase old new result out → old.counts.moved ≡ min n (2 ^ 64 - 1)
-    → new.counts.moved ≡ min (n + moves (followed_by [] (events_of (group_of result out)))) (2 ^ 64 - 1)
-going_moves_counted Scanning old new result out n scans at =
-    let same = ap (λ (c : Counts). c.moved) scans.counts in
-    elim scans.outcome [
-      | inl reads ↦ rw (reads.result_is) (same ∙ none_moved old.counts.moved n at)
-      | inr misses ↦ rw (unread_moves (Some ReadCall) old.tasks new.tasks result out misses.ends) (same ∙ none_moved old.counts.moved n at)
-    ]
-going_moves_counted Ready old new result out n goes at =
-    ap (λ (c : Counts). c.moved) goes.counts ∙ moves_by old.counts goes.progress goes.others new.tasks new.held result out n goes.leaves at
-going_moves_counted Foreign old new result out n refuses at =
-    let same = ap (λ (c : Counts). c.moved) refuses.counts in
-    rw (unread_moves None old.tasks new.tasks result out refuses.ends) (same ∙ none_moved old.counts.moved n at)
+-- a step over a chip that is none of the device's counts itself alone
+pub going_counts_step : (phase : Phase) (old new : DeviceState) (result : Stepped) (out : List ℕ) → StepsIn phase old new result out → ¬ IsSound old → new.counts ≡ counted_step old.counts
+going_counts_step Scanning old new result out scans unsound = scans.counts
+going_counts_step Ready old new result out goes unsound = absurd (unsound goes.sound)
+going_counts_step Foreign old new result out refuses unsound = refuses.counts

@@ -46,13 +46,13 @@ kept_queue : (luns : ℕ) (lim : Limits) (rest : Task) (others tasks : List Task
     → IsTaskOk luns lim rest → HoldsData held_mid rest → AllByRecursion (IsWaiting luns lim) others → IsQueue luns lim held tasks
 kept_queue luns lim rest others tasks held_mid held is same ok holds all = rw (is, same) (ok, holds, all)
 
-pub leaves_queue : (luns : ℕ) (lim : Limits) (progress : Progress) (others tasks : List Task) (held_mid held : List ℕ) (result : Stepped) (mid out : List ℕ)
-    → Leaves progress others tasks held result out
+pub leaves_queue : (segment : List ℕ) (luns : ℕ) (lim : Limits) (progress : Progress) (others tasks : List Task) (held_mid held : List ℕ) (result : Stepped) (mid out : List ℕ)
+    → Leaves progress segment others tasks held result out
     → Stays progress held_mid held mid out → AllTasks (IsTaskOk luns lim) progress → AllTasks (HoldsData held_mid) progress → AllByRecursion (IsWaiting luns lim) others → IsQueue luns lim held tasks
-leaves_queue luns lim (Sends what rest) others tasks held_mid held result mid out leaves stays ok holds all = kept_queue luns lim rest others tasks held_mid held leaves.0 stays.0 ok holds all
-leaves_queue luns lim (Silent what rest) others tasks held_mid held result mid out leaves stays ok holds all = kept_queue luns lim rest others tasks held_mid held leaves.0 stays.0 ok holds all
-leaves_queue luns lim (Ended reply) others tasks held_mid held result mid out leaves stays ok holds all = rw (leaves.0) (waiting_queue luns lim held others leaves.1 all)
-leaves_queue luns lim (Failed what reply) others tasks held_mid held result mid out leaves stays ok holds all = rw (leaves.0) (waiting_queue luns lim held others leaves.1 all)
+leaves_queue segment luns lim (Sends what rest) others tasks held_mid held result mid out leaves stays ok holds all = kept_queue luns lim rest others tasks held_mid held leaves.0 stays.0 ok holds all
+leaves_queue segment luns lim (Silent what rest) others tasks held_mid held result mid out leaves stays ok holds all = kept_queue luns lim rest others tasks held_mid held leaves.0 stays.0 ok holds all
+leaves_queue segment luns lim (Ended reply) others tasks held_mid held result mid out leaves stays ok holds all = rw (leaves.0) (waiting_queue luns lim held others leaves.1 all)
+leaves_queue segment luns lim (Failed what reply) others tasks held_mid held result mid out leaves stays ok holds all = rw (leaves.0) (waiting_queue luns lim held others leaves.1 all)
 
 -- no step but one of the collector erases
 pub none_erased : (counts : Counts) (progress : Progress) → IsOfTask progress → (counted counts progress).erased ≡ counts.erased

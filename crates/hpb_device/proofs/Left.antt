@@ -1,5 +1,5 @@
 -- How many steps a device takes at most, after each of its calls.
-use Rattle.std.proofs.Common.{◌≡◌, Option, ℕ, zero, suc, ◌+◌, ◌-◌, ◌*◌, ◌/◌, ◌<◌, ◌≤◌, ◌==◌, Bool, true, false, not, ◌&&◌, nat_lt, min, List, [], ◌∷◌, ◌++◌, map, refl, sym, ap, subst, arith}
+use Rattle.std.proofs.Common.{◌≡◌, Option, ℕ, zero, suc, ◌+◌, ◌-◌, ◌*◌, ◌/◌, ◌<◌, ◌≤◌, ◌==◌, Bool, true, false, not, ◌&&◌, nat_lt, min, List, [], ◌∷◌, ◌++◌, map, refl, sym, ap, subst, arith, Some, inl, inr, ◌∙◌}
 use Rattle.std.proofs.lemmas.Bool.Decides.{nat_tests}
 use Rattle.std.proofs.Math.Nat.{mul-le-mul_left, mul-suc}
 use Rattle.std.specs.Prelude.{sum_by, if◌then◌else◌}
@@ -7,6 +7,7 @@ use Rattle.std.proofs.lemmas.List.Sums.{sum_by-cons, sum_by_push}
 use Rattle.std.proofs.lemmas.Bool.{false≢true}
 use Rattle.flash_pages.specs.declared.chip.Geometry.{Geometry}
 use Rattle.flash_pages.specs.declared.chip.ChipOp.{ChipOp}
+use Rattle.flash_pages.specs.declared.chip.ChipOp.TheVariants.{Read as ReadCall}
 use Rattle.collector_laws.specs.Changes.{until_room}
 use Rattle.flash_store.specs.Store.{IsSame, StoreState, collecting}
 use Rattle.hpb_cdb.specs.declared.cdb.Cdb.{Cdb}
@@ -23,9 +24,9 @@ use Rattle.hpb_device.specs.declared.advance.Progress.TheVariants.{Sends, Silent
 use Rattle.hpb_device.specs.declared.device.Stepped.{Stepped}
 use Rattle.hpb_device.specs.declared.task.Task.{Task}
 use Rattle.hpb_device.specs.Advance.{AllTasks}
-use Rattle.hpb_device.specs.Calls.{EndsUnread, Leaves}
+use Rattle.hpb_device.specs.Calls.{EndsUnread, Leaves, LeavesFewer}
 use Rattle.hpb_device.specs.Keeps.{KeepsTasks, waiting_of}
-use Rattle.hpb_device.specs.Left.{KeepsNoWrite, steps_left, steps_of, tasks_left, wait_of, write_steps}
+use Rattle.hpb_device.specs.Left.{KeepsNoWrite, steps_left, steps_of, tasks_left, unscanned, wait_of, write_steps}
 use Rattle.hpb_device.specs.Limits.{limits_of}
 use Rattle.hpb_device.specs.Sizes.{sizes}
 use Rattle.hpb_device.specs.Standing.{DeviceStands, sizes_of}
@@ -70,13 +71,13 @@ without_fewer lim pages wait now task others few =
     omega (arith, most, some)
 
 -- a step of the first task leaves fewer
-pub leaves_fewer : (lim : Limits) (pages wait now : ℕ) (task : Task) (progress : Progress) (others tasks : List Task) (held : List ℕ) (result : Stepped) (out : List ℕ) → now + 1 ≤ 2 * pages
-    → Leaves progress others tasks held result out
+pub leaves_fewer : (segment : List ℕ) (lim : Limits) (pages wait now : ℕ) (task : Task) (progress : Progress) (others tasks : List Task) (held : List ℕ) (result : Stepped) (out : List ℕ) → now + 1 ≤ 2 * pages
+    → Leaves progress segment others tasks held result out
     → AllTasks (λ rest. steps_of lim pages now rest < steps_of lim pages wait task) progress → tasks_left lim pages now tasks < tasks_left lim pages wait (task ∷ others)
-leaves_fewer lim pages wait now task (Sends what rest) others tasks held result out few leaves less = rw (leaves.0) (omega (arith, less))
-leaves_fewer lim pages wait now task (Silent what rest) others tasks held result out few leaves less = rw (leaves.0) (omega (arith, less))
-leaves_fewer lim pages wait now task (Ended reply) others tasks held result out few leaves less = rw (leaves.0) (without_fewer lim pages wait now task others few)
-leaves_fewer lim pages wait now task (Failed what reply) others tasks held result out few leaves less = rw (leaves.0) (without_fewer lim pages wait now task others few)
+leaves_fewer segment lim pages wait now task (Sends what rest) others tasks held result out few leaves less = rw (leaves.0) (omega (arith, less))
+leaves_fewer segment lim pages wait now task (Silent what rest) others tasks held result out few leaves less = rw (leaves.0) (omega (arith, less))
+leaves_fewer segment lim pages wait now task (Ended reply) others tasks held result out few leaves less = rw (leaves.0) (without_fewer lim pages wait now task others few)
+leaves_fewer segment lim pages wait now task (Failed what reply) others tasks held result out few leaves less = rw (leaves.0) (without_fewer lim pages wait now task others few)
 
 pub ended_left : (lim : Limits) (pages wait now : ℕ) (old tasks : List Task) (task : Task) (others : List Task) → now + 1 ≤ 2 * pages → old ≡ task ∷ others → tasks ≡ others
     → tasks_left lim pages now tasks < tasks_left lim pages wait old
@@ -249,3 +250,27 @@ rest_left device going = by_tasks device.tasks refl
     by_tasks : (tasks : List Task) → device.tasks ≡ tasks → 1 ≤ steps_left device
     by_tasks [] none = absurd (going (subst AreAtRest (sym none) tt))
     by_tasks (head ∷ others) was = going_left device head others was
+
+-- a scan that failed to read its page leaves fewer steps where it ended a task, and else as many
+pub misses_fewer : (old new : DeviceState) (result : Stepped) (out : List ℕ) → 1 ≤ old.store.geometry.pages → new.store.geometry ≡ old.store.geometry → new.shape ≡ old.shape
+    → collecting new.store ≡ collecting old.store → new.store.scanned ≡ old.store.scanned → EndsUnread (Some ReadCall) old.tasks new.tasks result out → LeavesFewer old new result
+misses_fewer old new result out some geometry shape kept scanned ends = by_tasks old.tasks refl ends
+  where
+    waits : wait_of new.store ≡ wait_of old.store
+    waits = λ i. min (until_room (geometry i) (kept i)) (2 * (geometry i).pages - 1)
+
+    left : tasks_left (limits_of new.shape) new.store.geometry.pages (wait_of new.store) new.tasks
+        ≡ tasks_left (limits_of old.shape) old.store.geometry.pages (wait_of old.store) new.tasks
+    left = λ i. tasks_left (limits_of (shape i)) (geometry i).pages (waits i) new.tasks
+
+    unread : unscanned new ≡ unscanned old
+    unread = λ i. (geometry i).blocks * (geometry i).pages - scanned i
+
+    by_tasks : (tasks : List Task) → old.tasks ≡ tasks → EndsUnread (Some ReadCall) tasks new.tasks result out → LeavesFewer old new result
+    by_tasks [] is ends =
+        let same : tasks_left (limits_of old.shape) old.store.geometry.pages (wait_of old.store) new.tasks ≡ tasks_left (limits_of old.shape) old.store.geometry.pages (wait_of old.store) old.tasks =
+        ap (tasks_left (limits_of old.shape) old.store.geometry.pages (wait_of old.store)) (ends.0 ∙ sym is) in
+        inr (is, ap (λ (r : Stepped). r.failed) ends.1, omega (arith, left, unread, same))
+    by_tasks (task ∷ others) is ends =
+        let less = ended_left (limits_of old.shape) old.store.geometry.pages (wait_of old.store) (wait_of old.store) old.tasks new.tasks task others (wait_most old.store some) is ends.0 in
+        inl (omega (arith, less, left, unread))

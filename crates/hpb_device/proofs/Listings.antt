@@ -59,11 +59,11 @@ use Rattle.hpb_device.specs.Calls.{EndsHead, Keeps, Leaves, TakesData}
 use Rattle.hpb_device.specs.Keeps.{KeepsTasks, waiting_of}
 use Rattle.hpb_device.specs.Limits.{limits_of}
 use Rattle.hpb_device.specs.Listed.{ListingStands, kept_now}
-use Rattle.hpb_device.specs.Reply.{reply_upiu}
+use Rattle.hpb_device.specs.Reply.{reply_upiu, told_upiu}
 use Rattle.hpb_device.specs.Standing.{DeviceStands, group_of, kept_of, programmed_of, sizes_of}
 use Rattle.hpb_device.specs.State.{DeviceState}
 use Rattle.hpb_device.specs.Task.{IsQueue, IsWaiting, bytes_given, bytes_taken}
-use Rattle.hpb_device.proofs.Entries.{ListsNone, head_listed, reply_lists_none, sent_lists_none}
+use Rattle.hpb_device.proofs.Entries.{ListsNone, head_listed, reply_lists_none, sent_lists_none, answer_lists_none}
 use Rattle.hpb_device.proofs.Chips.{pages_of}
 use Rattle.hpb_device.proofs.Commands.{is_written}
 use Rattle.hpb_device.proofs.Leaving.{IsOfTask}
@@ -460,10 +460,10 @@ programmed_listings had pages turn rest start programs head stand =
     fewer p one = same_programmed (k + 1) t (waiting_of now_task) ws ws p refl refl ∙ sym (ap (λ (ts : List Task). programmed_at ts p) head_is) ∙ one
 
 -- after the first task was answered GOOD
-good_listings : (had : Place → Bool) (pages : ℕ) (turn : Turn) (residual : ℕ) (out : List ℕ) → IsComplete turn.task → out ≡ upiu_out (reply_upiu (Good turn.task.lun turn.task.tag residual))
+good_listings : (had : Place → Bool) (pages : ℕ) (turn : Turn) (segment : List ℕ) (residual : ℕ) (out : List ℕ) → IsComplete turn.task → out ≡ upiu_out (told_upiu segment (Good turn.task.lun turn.task.tag residual))
     → turn.new.tasks ≡ turn.others
     → turn.new.store.pages ≡ turn.old.store.pages → ListingStands had pages turn.old turn.history → ListingStands had pages turn.new (turn.history ▹ Device out)
-good_listings had pages turn residual out complete sent left same stand =
+good_listings had pages turn segment residual out complete sent left same stand =
     elim (not_write task.command) [
       | inl other ↦
           quiet_listings had pages d now e (Device out) (λ p. ap (settles p) leaves ∙ ap (λ (b : Bool). b || false) (other p t)) lists_none
@@ -503,7 +503,7 @@ good_listings had pages turn residual out complete sent left same stand =
     kept = record (kept_of 0 d []) { programmed = task.programmed }
 
     v : Upiu
-    v = reply_upiu (Good task.lun task.tag residual)
+    v = told_upiu segment (Good task.lun task.tag residual)
 
     tasks_are : tasks_after s e ≡ t ∷ ws
     tasks_are = tasks_at turn
@@ -513,10 +513,10 @@ good_listings had pages turn residual out complete sent left same stand =
 
     leaves : leaving (tasks_after s e) (Device out) ≡ record { task = t; good = true } ∷ []
     leaves = ap (λ (ts : List Waiting). leaving ts (Device out)) tasks_are ∙ ap (λ (b : List ℕ). leaving (t ∷ ws) (Device b)) sent ∙ out_leaves (t ∷ ws) v
-        ∙ response_leaves t ws 0 residual [] queue.apart.0
+        ∙ response_leaves t ws 0 residual segment queue.apart.0
 
     lists_none : ListsNone s e (Device out)
-    lists_none = subst (λ (b : List ℕ). ListsNone s e (Device b)) (sym sent) (reply_lists_none s e (Good task.lun task.tag residual))
+    lists_none = subst (λ (b : List ℕ). ListsNone s e (Device b)) (sym sent) (answer_lists_none s e segment (Good task.lun task.tag residual))
 
     had_pages : HasPages s had (with_tasks (t ∷ ws) kept) (current d.store.pages) e
     had_pages = pages_as s had (kept_now d) (with_tasks (t ∷ ws) kept) (current d.store.pages) e
@@ -564,23 +564,23 @@ failed_listings had pages turn what reply out fails sent left same stand =
     ∙ ap (λ (r : Reply). upiu_out (reply_upiu r)) fails.answer) left same failed
 
 -- what a step leaves
-pub stepped_listings : (had : Place → Bool) (pages : ℕ) (turn : Turn) (progress : Progress) (result : Stepped) (out : List ℕ) → IsOfTask progress
+pub stepped_listings : (segment : List ℕ) (had : Place → Bool) (pages : ℕ) (turn : Turn) (progress : Progress) (result : Stepped) (out : List ℕ) → IsOfTask progress
     → Advances (limits_of turn.old.shape) turn.old.store turn.new.store turn.old.held turn.new.held turn.task progress out
-    → Leaves progress turn.others turn.new.tasks turn.new.held result out → ListingStands had pages turn.old turn.history
+    → Leaves progress segment turn.others turn.new.tasks turn.new.held result out → ListingStands had pages turn.old turn.history
     → ListingStands had pages turn.new (followed_by turn.history (events_of (group_of result out)))
-stepped_listings had pages turn (Sends what rest) result out own advances leaves stand =
+stepped_listings segment had pages turn (Sends what rest) result out own advances leaves stand =
     rw (leaves.1) (sent_listings had pages turn what rest out advances.0 (pages_of turn.old.store turn.new.store advances.1) leaves.0 stand)
-stepped_listings had pages turn (Silent Missed rest) result out own advances leaves stand =
+stepped_listings segment had pages turn (Silent Missed rest) result out own advances leaves stand =
     rw (leaves.1) (missed_listings had pages turn rest advances.0.0 (pages_of turn.old.store turn.new.store advances.0.1) leaves.0 stand)
-stepped_listings had pages turn (Silent Programmed rest) result out own advances leaves stand =
+stepped_listings segment had pages turn (Silent Programmed rest) result out own advances leaves stand =
     rw (leaves.1) (programmed_listings had pages turn rest advances.0.0 advances.0.1 leaves.0 stand)
-stepped_listings had pages turn (Silent (Collected moved) rest) result out own advances leaves stand = absurd own
-stepped_listings had pages turn (Ended reply) result out own advances leaves stand =
-    let is : (r : Reply) → reply ≡ r → out ≡ upiu_out (reply_upiu r) = λ r e. leaves.3 ∙ ap (λ (r : Reply). upiu_out (reply_upiu r)) e in
+stepped_listings segment had pages turn (Silent (Collected moved) rest) result out own advances leaves stand = absurd own
+stepped_listings segment had pages turn (Ended reply) result out own advances leaves stand =
+    let is : (r : Reply) → reply ≡ r → out ≡ upiu_out (told_upiu segment r) = λ r e. leaves.3 ∙ ap (λ (r : Reply). upiu_out (told_upiu segment r)) e in
     let same = pages_of turn.old.store turn.new.store advances.1 in
     rw (leaves.2) (elim advances.0 [
-      | inl good ↦ good_listings had pages turn _ out good.0 (is _ good.1) leaves.0 same stand
+      | inl good ↦ good_listings had pages turn segment _ out good.0 (is _ good.1) leaves.0 same stand
       | inr full ↦ cut_listings had pages turn turn.task.lun turn.task.tag _ NoNumber out turn.history (is _ full.1) leaves.0 same stand
     ])
-stepped_listings had pages turn (Failed what reply) result out own advances leaves stand =
+stepped_listings segment had pages turn (Failed what reply) result out own advances leaves stand =
     rw (leaves.2) (failed_listings had pages turn what reply out advances.0 leaves.3 leaves.0 advances.1 stand)

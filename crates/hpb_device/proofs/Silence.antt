@@ -41,24 +41,24 @@ use Rattle.hpb_device.proofs.Going.{refusing_sends, sent_or_silent}
 use Rattle.hpb_device.proofs.StepStands.{given_is}
 
 -- after a step that sent nothing
-silent_after : (old new : DeviceState) (task : Task) (others : List Task) (progress : Progress) (result : Stepped) (out : List ℕ) → IsTaskOk old.store.luns (limits_of old.shape) task
-    → Advances (limits_of old.shape) old.store new.store old.held new.held task progress out → Leaves progress others new.tasks new.held result out → result.sent ≡ false → WasSilent new.tasks
-silent_after old new task others (Sends what rest) result out ok advances leaves silent = absurd (sent_or_silent result _ leaves.1 silent)
-silent_after old new task others (Silent Missed rest) result out ok advances leaves silent = rw (leaves.0) (inl (ap (λ (t : Task). t.tried) advances.0.0.task_is))
-silent_after old new task others (Silent Programmed rest) result out ok advances leaves silent =
+silent_after : (segment : List ℕ) (old new : DeviceState) (task : Task) (others : List Task) (progress : Progress) (result : Stepped) (out : List ℕ) → IsTaskOk old.store.luns (limits_of old.shape) task
+    → Advances (limits_of old.shape) old.store new.store old.held new.held task progress out → Leaves progress segment others new.tasks new.held result out → result.sent ≡ false → WasSilent new.tasks
+silent_after segment old new task others (Sends what rest) result out ok advances leaves silent = absurd (sent_or_silent result _ leaves.1 silent)
+silent_after segment old new task others (Silent Missed rest) result out ok advances leaves silent = rw (leaves.0) (inl (ap (λ (t : Task). t.tried) advances.0.0.task_is))
+silent_after segment old new task others (Silent Programmed rest) result out ok advances leaves silent =
     let programs = advances.0.1 in
     let write = is_written task.command task.programmed (omega (arith, ok.within.asked, ok.within.come, programs.more)) in
     let is : is_write rest.command ≡ true = ap (λ (t : Task). is_write t.command) programs.task_is ∙ ap is_write write.2 in
     let asked : rest.asked ≡ task.asked = ap (λ (t : Task). t.asked) programs.task_is in
     rw (leaves.0) (inr (is, omega (arith, asked, ok.within.come, programs.more)))
-silent_after old new task others (Silent (Collected moved) rest) result out ok advances leaves silent =
+silent_after segment old new task others (Silent (Collected moved) rest) result out ok advances leaves silent =
     let collects = advances.0 in
     let write = is_written task.command task.programmed (omega (arith, ok.within.asked, ok.within.come, collects.more)) in
     let is : is_write rest.command ≡ true = ap (λ (t : Task). is_write t.command) collects.task_is ∙ ap is_write write.2 in
     let asked : rest.asked ≡ task.asked = ap (λ (t : Task). t.asked) collects.task_is in
     rw (leaves.0) (inr (is, omega (arith, asked, ok.within.come, collects.more)))
-silent_after old new task others (Ended reply) result out ok advances leaves silent = absurd (sent_or_silent result _ leaves.2 silent)
-silent_after old new task others (Failed what reply) result out ok advances leaves silent = absurd (sent_or_silent result _ leaves.2 silent)
+silent_after segment old new task others (Ended reply) result out ok advances leaves silent = absurd (sent_or_silent result _ leaves.2 silent)
+silent_after segment old new task others (Failed what reply) result out ok advances leaves silent = absurd (sent_or_silent result _ leaves.2 silent)
 
 -- a step of the scan that sends nothing leaves the tasks as they were
 unread_silent : (failed : Option ChipOp) (tasks left : List Task) (result : Stepped) (out : List ℕ) → EndsUnread failed tasks left result out → result.sent ≡ false → WasSilent tasks → WasSilent left
@@ -75,7 +75,7 @@ going_was_silent Scanning old new result out scans busy silent was = elim was [
     | inr misses ↦ unread_silent (Some ReadCall) old.tasks new.tasks result out misses.ends silent before
   ]
 ]
-going_was_silent Ready old new result out goes busy silent was = silent_after old new goes.task goes.others goes.progress result out goes.ok goes.advances goes.leaves silent
+going_was_silent Ready old new result out goes busy silent was = silent_after _ old new goes.task goes.others goes.progress result out goes.ok goes.advances goes.leaves silent
 going_was_silent Foreign old new result out refuses busy silent was = absurd (false≢true (sym silent ∙ refusing_sends old new result out refuses busy))
 
 -- a task that tries an entry was not silent

@@ -13,7 +13,7 @@ use Rattle.flash_pages.proofs.Programming.{erased_count-programmed, length-unit_
 use Rattle.hpb_cdb.specs.declared.cdb.Cdb.{Cdb}
 use Rattle.hpb_cdb.specs.declared.limits.Limits.{Limits}
 use Rattle.hpb_cdb.specs.Cdb.{blocks_of}
-use Rattle.hpb_cdb.specs.declared.cdb.Cdb.TheVariants.{TestReady, Read, Write, Capacity, Sync, HpbRead, ReadBuffer}
+use Rattle.hpb_cdb.specs.declared.cdb.Cdb.TheVariants.{TestReady, Read, Write, Capacity, Sync, HpbRead, ReadBuffer, InactOne, InactAll}
 use Rattle.upiu_wire.specs.Upiu.{upiu_out}
 use Rattle.flat_unit.specs.declared.event.Event.TheVariants.{Device, Failed as CallFailed}
 use Rattle.flat_unit.specs.Command.{is_write, needed}
@@ -56,7 +56,7 @@ use Rattle.hpb_device.specs.Reply.{cause_sense}
 use Rattle.hpb_device.specs.Advance.{Misses, IsComplete, HasNoNumber, Transfers, check, held_after, IsSameStore, op_of, SendsBlock, Lists, Tells, Asks, Programs, Fails, ReadsBlocks, entries_of, first_listed, capacity_of, nth_place, first_block}
 use Rattle.hpb_device.specs.Keeps.{KeepsTasks, waiting_of}
 use Rattle.hpb_device.specs.Limits.{limits_of}
-use Rattle.hpb_device.specs.Reply.{reply_upiu}
+use Rattle.hpb_device.specs.Reply.{reply_upiu, told_upiu}
 use Rattle.hpb_device.specs.Sizes.{sizes}
 use Rattle.hpb_device.specs.Standing.{sizes_of, kept_of, programmed_of, DeviceStands}
 use Rattle.hpb_device.specs.State.{DeviceState, IsSound}
@@ -234,6 +234,8 @@ given_is s lim (Write lba n) block units region sub ok = refl
 given_is s lim TestReady block units region sub ok = refl
 given_is s lim Capacity block units region sub ok = refl
 given_is s lim (Sync lba n) block units region sub ok = refl
+given_is s lim (InactOne number) block units region sub ok = refl
+given_is s lim InactAll block units region sub ok = refl
 given_is s lim _ block units region sub ok = absurd ok
 
 taken_is : (s : Sizes) (lim : Limits) (command : Cdb) → s.block ≡ 4096 → IsServed lim command → Rattle.flat_unit.specs.Command.bytes_taken s command ≡ bytes_taken command
@@ -244,6 +246,8 @@ taken_is s lim (ReadBuffer region sub len) block ok = refl
 taken_is s lim TestReady block ok = refl
 taken_is s lim Capacity block ok = refl
 taken_is s lim (Sync lba n) block ok = refl
+taken_is s lim (InactOne region) block ok = refl
+taken_is s lim InactAll block ok = refl
 taken_is s lim _ block ok = absurd ok
 
 -- what a command that reads blocks is to the flat unit
@@ -452,9 +456,9 @@ write_or_not (Write lba n) = inr (lba, n, refl)
 write_or_not _ = inl refl
 
 -- the head is complete, and is answered GOOD
-steps_good : (turn : Turn) (out : List ℕ) → IsComplete turn.task → out ≡ upiu_out (reply_upiu (Good turn.task.lun turn.task.tag (turn.task.expected - turn.task.sent - turn.task.come)))
+steps_good : (turn : Turn) (segment out : List ℕ) → length segment < 2 ^ 16 → IsComplete turn.task → out ≡ upiu_out (told_upiu segment (Good turn.task.lun turn.task.tag (turn.task.expected - turn.task.sent - turn.task.come)))
     → (turn.new.tasks ≡ turn.others) × (turn.new.held ≡ []) → turn.new.store.pages ≡ turn.old.store.pages → DeviceStands turn.new turn.first (turn.history ▹ Device out)
-steps_good turn out complete sent none pages =
+steps_good turn segment out short complete sent none pages =
     let d = turn.old in
     let task = turn.task in
     let ready = turn.ready in
@@ -463,17 +467,17 @@ steps_good turn out complete sent none pages =
     let s = sizes_of d in
     let gives = given_is s (limits_of d.shape) task.command refl refl refl refl ready.ok.accepted.served in
     let takes = taken_is s (limits_of d.shape) task.command refl ready.ok.accepted.served in
-    let allows : Allows s t (GoodAnswer []) = (complete.sent ∙ (ready.ok.accepted.given ∙ sym gives), ready.only.counted ∙ (complete.come ∙ sym takes), omega arith) in
+    let allows : Allows s t (GoodAnswer segment) = (complete.sent ∙ (ready.ok.accepted.given ∙ sym gives), ready.only.counted ∙ (complete.come ∙ sym takes), short) in
     let residual : task.expected - task.sent - task.come ≡ task.expected - needed s task.command = omega (arith, complete.sent, complete.come, ready.ok.accepted.given, gives, takes) in
-    let is_out : out ≡ upiu_out (upiu_of s t (GoodAnswer [])) = sent ∙ ap (λ (r : ℕ). upiu_out (response_upiu task.lun task.tag 0x00 r [])) residual in
+    let is_out : out ≡ upiu_out (upiu_of s t (GoodAnswer segment)) = sent ∙ ap (λ (r : ℕ). upiu_out (response_upiu task.lun task.tag 0x00 r segment)) residual in
     let After : List ℕ → Type 0 = λ b. StandsIn turn ws 0 (turn.history ▹ Device b) in
     let kept = kept_of turn.at.erases d (t ∷ ws) in
-    let step : After (upiu_out (upiu_of s t (GoodAnswer []))) = elim (write_or_not task.command) [
-      | inl other ↦ stands_ended s turn.first kept turn.history t ws [] (fits_wire turn) other allows (at_head turn)
+    let step : After (upiu_out (upiu_of s t (GoodAnswer segment))) = elim (write_or_not task.command) [
+      | inl other ↦ stands_ended s turn.first kept turn.history t ws segment (fits_wire turn) other allows (at_head turn)
       | inr write ↦
           let taken : bytes_taken task.command ≡ 4096 * write.1 = ap bytes_taken write.2 in
           let all : programmed_of d.tasks ≡ write.1 = ap programmed_of turn.was ∙ omega (arith, complete.programmed, complete.come, taken) in
-          stands_good s turn.first kept turn.history t ws write.0 write.1 [] (fits_wire turn) write.2 all allows (at_head turn)
+          stands_good s turn.first kept turn.history t ws write.0 write.1 segment (fits_wire turn) write.2 all allows (at_head turn)
     ] in
     without turn (turn.history ▹ Device out) none pages (subst After (sym is_out) step)
 
@@ -550,20 +554,20 @@ ready_of d task others first e at was queue units goes =
     record { ok = q.0; units = units; goes = goes; part = q.1.part; only = first_is d.tasks d.held at.tasks task others was at.keeps; waiting = q.2 }
 
 -- what a step came to, and what it tells: all but a step of the collector
-pub steps : (turn : Turn) (progress : Progress) (result : Stepped) (out : List ℕ) → IsOfTask progress
+pub steps : (segment : List ℕ) → length segment < 2 ^ 16 → (turn : Turn) (progress : Progress) (result : Stepped) (out : List ℕ) → IsOfTask progress
     → Advances (limits_of turn.old.shape) turn.old.store turn.new.store turn.old.held turn.new.held turn.task progress out
-    → Leaves progress turn.others turn.new.tasks turn.new.held result out → DeviceStands turn.new turn.first (followed_by turn.history (events_of (group_of result out)))
-steps turn (Sends what rest) result out own advances leaves =
+    → Leaves progress segment turn.others turn.new.tasks turn.new.held result out → DeviceStands turn.new turn.first (followed_by turn.history (events_of (group_of result out)))
+steps segment short turn (Sends what rest) result out own advances leaves =
     rw (leaves.1) (steps_sent turn what rest out advances.0 (pages_of turn.old.store turn.new.store advances.1) advances.2 leaves.0)
-steps turn (Silent Missed rest) result out own advances leaves =
+steps segment short turn (Silent Missed rest) result out own advances leaves =
     rw (leaves.1) (steps_missed turn rest advances.0.0 (pages_of turn.old.store turn.new.store advances.0.1) advances.1 leaves.0)
-steps turn (Silent Programmed rest) result out own advances leaves = rw (leaves.1) (steps_programmed turn rest advances.0.0 advances.0.1 advances.1 leaves.0)
-steps turn (Silent (Collected moved) rest) result out own advances leaves = absurd own
-steps turn (Ended reply) result out own advances leaves =
-    let is : (r : Reply) → reply ≡ r → out ≡ upiu_out (reply_upiu r) = λ r same. leaves.3 ∙ ap (λ (r : Reply). upiu_out (reply_upiu r)) same in
+steps segment short turn (Silent Programmed rest) result out own advances leaves = rw (leaves.1) (steps_programmed turn rest advances.0.0 advances.0.1 advances.1 leaves.0)
+steps segment short turn (Silent (Collected moved) rest) result out own advances leaves = absurd own
+steps segment short turn (Ended reply) result out own advances leaves =
+    let is : (r : Reply) → reply ≡ r → out ≡ upiu_out (told_upiu segment r) = λ r same. leaves.3 ∙ ap (λ (r : Reply). upiu_out (told_upiu segment r)) same in
     let pages = pages_of turn.old.store turn.new.store advances.1 in
     rw (leaves.2) (elim advances.0 [
-      | inl good ↦ steps_good turn out good.0 (is _ good.1) (leaves.0, leaves.1) pages
+      | inl good ↦ steps_good turn segment out short good.0 (is _ good.1) (leaves.0, leaves.1) pages
       | inr full ↦ steps_full turn out full.0 (is _ full.1) (leaves.0, leaves.1) pages
     ])
-steps turn (Failed what reply) result out own advances leaves = rw (leaves.2) (steps_failed turn what reply out advances.0 leaves.3 (leaves.0, leaves.1) advances.1)
+steps segment short turn (Failed what reply) result out own advances leaves = rw (leaves.2) (steps_failed turn what reply out advances.0 leaves.3 (leaves.0, leaves.1) advances.1)

@@ -1,14 +1,16 @@
 -- What a step of a device leaves, by what is known of its chip.
-use Rattle.std.proofs.Common.{◌≡◌, ◌≢◌, ℕ, ◌≤◌, Bool, true, false, List, [], ◌∷◌, length, refl, sym, ◌∙◌, ap, subst, arith}
+use Rattle.std.proofs.Common.{◌≡◌, ◌≢◌, ℕ, ◌≤◌, ◌<◌, ◌^◌, Bool, true, false, List, [], ◌∷◌, length, refl, sym, ◌∙◌, ap, subst, arith}
 use Rattle.std.specs.Prelude.{IsTrue}
 use Rattle.std.specs.Bool.{OnFalse}
 use Rattle.std.specs.List.{AllByRecursion}
+use Rattle.std.proofs.lemmas.List.{length-map, length-replicate}
 use Rattle.flash_pages.specs.Place.{Place}
 use Rattle.flash_pages.specs.Chip.{Page}
 use Rattle.flash_store.specs.declared.answers.Moved.{Moved}
 use Rattle.flash_store.specs.declared.answers.Phase.{Phase}
 use Rattle.flash_store.specs.declared.answers.Phase.TheVariants.{Scanning, Ready, Foreign}
 use Rattle.flash_store.specs.Store.{IsSame, IsStanding, StoreState}
+use Rattle.region_state.specs.Machine.{Machine}
 use Rattle.flat_unit.specs.History.{History, followed_by}
 use Rattle.flat_unit.specs.Replays.{events_of}
 use Rattle.flat_unit.specs.Stands.{First}
@@ -25,11 +27,13 @@ use Rattle.hpb_device.specs.Entries.{EntriesStand}
 use Rattle.hpb_device.specs.Limits.{limits_of}
 use Rattle.hpb_device.specs.Listed.{ListingStands}
 use Rattle.hpb_device.specs.Standing.{DeviceStands, DeviceStandsForeign, group_of}
+use Rattle.hpb_device.specs.Regions.{segment_told}
 use Rattle.hpb_device.specs.State.{DeviceState, IsDevice, IsSound}
 use Rattle.hpb_device.specs.Task.{IsQueue, IsWaiting}
 use Rattle.hpb_device.proofs.Chips.{whole_after}
 use Rattle.hpb_device.proofs.Collecting.{IsMoved, erased_by_step, moved_entries, moved_listings, moved_stands}
 use Rattle.hpb_device.proofs.Entries.{stepped_entries}
+use Rattle.hpb_device.proofs.Hinting.{segment_short}
 use Rattle.hpb_device.proofs.Leaving.{IsOfTask, none_erased}
 use Rattle.hpb_device.proofs.Listings.{stepped_listings}
 use Rattle.hpb_device.proofs.StepStands.{Turn, ready_of, steps}
@@ -41,13 +45,15 @@ serves_same old new same = record { geometry = same.geometry; luns = same.luns; 
 -- what is known of a device
 pub record IsWell (d : DeviceState) : Type 0 where
   pub units : d.store.units ≡ d.shape.units
+  pub regions : length d.regions ≡ d.store.luns
   pub queue : IsQueue d.store.luns (limits_of d.shape) d.held d.tasks
   pub unbegun : d.store.phase ≢ Ready → (d.held ≡ []) × AllByRecursion (IsWaiting d.store.luns (limits_of d.shape)) d.tasks
   pub standing : IsStanding d.store
 
-pub well_of : (d : DeviceState) (luns room : ℕ) → IsDevice d.store d.shape luns d.tasks d.held room → IsStanding d.store → IsWell d
+pub well_of : (d : DeviceState) (luns room : ℕ) → IsDevice d.store d.shape luns d.regions d.tasks d.held room → IsStanding d.store → IsWell d
 well_of d luns room is stands = record {
   units = is.units_served;
+  regions = sym (length-map d.regions (λ (m : Machine). m.shape)) ∙ (ap length is.shapes ∙ (length-replicate luns d.shape ∙ sym is.luns_served));
   queue = subst (λ (n : ℕ). IsQueue n (limits_of d.shape) d.held d.tasks) (sym is.luns_served) is.queue;
   unbegun = λ other. let none = is.unbegun other in (none.0, subst (λ (n : ℕ). AllByRecursion (IsWaiting n (limits_of d.shape)) d.tasks) (sym is.luns_served) none.1);
   standing = stands;
@@ -75,6 +81,13 @@ not_foreign phase is ready = apart (sym is ∙ ready)
   where
     apart : Foreign ≡ Ready → ⊥
     apart same = cc
+
+-- the segment of a GOOD RESPONSE
+abbrev told_in : {old new : DeviceState} {result : Stepped} {out : List ℕ} → GoesOn old new result out → List ℕ
+told_in {old} goes = segment_told old.shape old.regions goes.task goes.progress
+
+told_short : (old new : DeviceState) (result : Stepped) (out : List ℕ) (goes : GoesOn old new result out) → length (told_in goes) < 2 ^ 16
+told_short old new result out goes = segment_short old.shape old.regions goes.task goes.progress
 
 -- the events of a step
 abbrev told : Stepped → List ℕ → History → History
@@ -110,7 +123,7 @@ module _ (old new : DeviceState) (well : IsWell old) (shape : new.shape ≡ old.
   -- a step of the collector in the place of a program
   moved_of : old.store.phase ≡ Ready → (goes : GoesOn old new result out) (moved : Moved) (rest : Task)
       → Advances (limits_of old.shape) old.store new.store old.held new.held goes.task (Silent (Collected moved) rest) out
-      → Leaves (Silent (Collected moved) rest) goes.others new.tasks new.held result out → new.counts ≡ counted old.counts (Silent (Collected moved) rest) → IsMoved old new moved
+      → Leaves (Silent (Collected moved) rest) (told_in goes) goes.others new.tasks new.held result out → new.counts ≡ counted old.counts (Silent (Collected moved) rest) → IsMoved old new moved
   moved_of ready goes moved rest advances leaves counts = record {
     changes = advances.0.collects.changes;
     unit = advances.0.collects.unit;
@@ -126,7 +139,7 @@ module _ (old new : DeviceState) (well : IsWell old) (shape : new.shape ≡ old.
   module _ (ready : old.store.phase ≡ Ready) (goes : GoesOn old new result out) where
     moved_is : (moved : Moved) (rest : Task) → goes.progress ≡ Silent (Collected moved) rest
         → Advances (limits_of old.shape) old.store new.store old.held new.held goes.task (Silent (Collected moved) rest) out
-        → Leaves (Silent (Collected moved) rest) goes.others new.tasks new.held result out → IsMoved old new moved
+        → Leaves (Silent (Collected moved) rest) (told_in goes) goes.others new.tasks new.held result out → IsMoved old new moved
     moved_is moved rest is advances leaves = moved_of ready goes moved rest advances leaves (goes.counts ∙ ap (counted old.counts) is)
 
     abbrev own_turn : (progress : Progress) (first : First) (e : History) → goes.progress ≡ progress → IsOfTask progress → DeviceStands old first e → Turn
@@ -134,46 +147,46 @@ module _ (old new : DeviceState) (well : IsWell old) (shape : new.shape ≡ old.
 
     goes_stands : (progress : Progress) (first : First) (e : History) → goes.progress ≡ progress
         → Advances (limits_of old.shape) old.store new.store old.held new.held goes.task progress out
-        → Leaves progress goes.others new.tasks new.held result out → DeviceStands old first e → DeviceStands new first (told result out e)
+        → Leaves progress (told_in goes) goes.others new.tasks new.held result out → DeviceStands old first e → DeviceStands new first (told result out e)
     goes_stands (Silent (Collected moved) rest) first e is advances leaves at = rw (leaves.1) (moved_stands old new moved out first e (moved_is moved rest is advances leaves) at)
-    goes_stands (Silent Missed rest) first e is advances leaves at = steps (own_turn (Silent Missed rest) first e is tt at) (Silent Missed rest) result out tt advances leaves
-    goes_stands (Silent Programmed rest) first e is advances leaves at = steps (own_turn (Silent Programmed rest) first e is tt at) (Silent Programmed rest) result out tt advances leaves
-    goes_stands (Sends what rest) first e is advances leaves at = steps (own_turn (Sends what rest) first e is tt at) (Sends what rest) result out tt advances leaves
-    goes_stands (Ended reply) first e is advances leaves at = steps (own_turn (Ended reply) first e is tt at) (Ended reply) result out tt advances leaves
-    goes_stands (Failed what reply) first e is advances leaves at = steps (own_turn (Failed what reply) first e is tt at) (Failed what reply) result out tt advances leaves
+    goes_stands (Silent Missed rest) first e is advances leaves at = steps (told_in goes) (told_short old new result out goes) (own_turn (Silent Missed rest) first e is tt at) (Silent Missed rest) result out tt advances leaves
+    goes_stands (Silent Programmed rest) first e is advances leaves at = steps (told_in goes) (told_short old new result out goes) (own_turn (Silent Programmed rest) first e is tt at) (Silent Programmed rest) result out tt advances leaves
+    goes_stands (Sends what rest) first e is advances leaves at = steps (told_in goes) (told_short old new result out goes) (own_turn (Sends what rest) first e is tt at) (Sends what rest) result out tt advances leaves
+    goes_stands (Ended reply) first e is advances leaves at = steps (told_in goes) (told_short old new result out goes) (own_turn (Ended reply) first e is tt at) (Ended reply) result out tt advances leaves
+    goes_stands (Failed what reply) first e is advances leaves at = steps (told_in goes) (told_short old new result out goes) (own_turn (Failed what reply) first e is tt at) (Failed what reply) result out tt advances leaves
 
     goes_entries : (progress : Progress) (first : First) (e : History) → goes.progress ≡ progress
         → Advances (limits_of old.shape) old.store new.store old.held new.held goes.task progress out
-        → Leaves progress goes.others new.tasks new.held result out → DeviceStands old first e → EntriesStand old e → EntriesStand new (told result out e)
+        → Leaves progress (told_in goes) goes.others new.tasks new.held result out → DeviceStands old first e → EntriesStand old e → EntriesStand new (told result out e)
     goes_entries (Silent (Collected moved) rest) first e is advances leaves at stand =
         rw (leaves.1) (moved_entries old new moved out e (moved_is moved rest is advances leaves) stand)
     goes_entries (Silent Missed rest) first e is advances leaves at stand =
-        stepped_entries (own_turn (Silent Missed rest) first e is tt at) (Silent Missed rest) result out tt advances leaves stand
+        stepped_entries (told_in goes) (own_turn (Silent Missed rest) first e is tt at) (Silent Missed rest) result out tt advances leaves stand
     goes_entries (Silent Programmed rest) first e is advances leaves at stand =
-        stepped_entries (own_turn (Silent Programmed rest) first e is tt at) (Silent Programmed rest) result out tt advances leaves stand
+        stepped_entries (told_in goes) (own_turn (Silent Programmed rest) first e is tt at) (Silent Programmed rest) result out tt advances leaves stand
     goes_entries (Sends what rest) first e is advances leaves at stand =
-        stepped_entries (own_turn (Sends what rest) first e is tt at) (Sends what rest) result out tt advances leaves stand
+        stepped_entries (told_in goes) (own_turn (Sends what rest) first e is tt at) (Sends what rest) result out tt advances leaves stand
     goes_entries (Ended reply) first e is advances leaves at stand =
-        stepped_entries (own_turn (Ended reply) first e is tt at) (Ended reply) result out tt advances leaves stand
+        stepped_entries (told_in goes) (own_turn (Ended reply) first e is tt at) (Ended reply) result out tt advances leaves stand
     goes_entries (Failed what reply) first e is advances leaves at stand =
-        stepped_entries (own_turn (Failed what reply) first e is tt at) (Failed what reply) result out tt advances leaves stand
+        stepped_entries (told_in goes) (own_turn (Failed what reply) first e is tt at) (Failed what reply) result out tt advances leaves stand
 
     goes_listings : (had : Place → Bool) (pages : ℕ) (progress : Progress) (first : First) (e : History) → goes.progress ≡ progress
         → Advances (limits_of old.shape) old.store new.store old.held new.held goes.task progress out
-        → Leaves progress goes.others new.tasks new.held result out → DeviceStands old first e → ListingStands had pages old e
+        → Leaves progress (told_in goes) goes.others new.tasks new.held result out → DeviceStands old first e → ListingStands had pages old e
         → ListingStands had pages new (told result out e)
     goes_listings had pages (Silent (Collected moved) rest) first e is advances leaves at stand =
         rw (leaves.1) (moved_listings old new moved out had pages e (moved_is moved rest is advances leaves) stand)
     goes_listings had pages (Silent Missed rest) first e is advances leaves at stand =
-        stepped_listings had pages (own_turn (Silent Missed rest) first e is tt at) (Silent Missed rest) result out tt advances leaves stand
+        stepped_listings (told_in goes) had pages (own_turn (Silent Missed rest) first e is tt at) (Silent Missed rest) result out tt advances leaves stand
     goes_listings had pages (Silent Programmed rest) first e is advances leaves at stand =
-        stepped_listings had pages (own_turn (Silent Programmed rest) first e is tt at) (Silent Programmed rest) result out tt advances leaves stand
+        stepped_listings (told_in goes) had pages (own_turn (Silent Programmed rest) first e is tt at) (Silent Programmed rest) result out tt advances leaves stand
     goes_listings had pages (Sends what rest) first e is advances leaves at stand =
-        stepped_listings had pages (own_turn (Sends what rest) first e is tt at) (Sends what rest) result out tt advances leaves stand
+        stepped_listings (told_in goes) had pages (own_turn (Sends what rest) first e is tt at) (Sends what rest) result out tt advances leaves stand
     goes_listings had pages (Ended reply) first e is advances leaves at stand =
-        stepped_listings had pages (own_turn (Ended reply) first e is tt at) (Ended reply) result out tt advances leaves stand
+        stepped_listings (told_in goes) had pages (own_turn (Ended reply) first e is tt at) (Ended reply) result out tt advances leaves stand
     goes_listings had pages (Failed what reply) first e is advances leaves at stand =
-        stepped_listings had pages (own_turn (Failed what reply) first e is tt at) (Failed what reply) result out tt advances leaves stand
+        stepped_listings (told_in goes) had pages (own_turn (Failed what reply) first e is tt at) (Failed what reply) result out tt advances leaves stand
 
   -- by what is known of the chip
   pub steps_stands : (phase : Phase) (first : First) (e : History) → old.store.phase ≡ phase → StepsIn phase old new result out → DeviceStands old first e

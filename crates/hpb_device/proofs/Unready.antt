@@ -36,7 +36,7 @@ use Rattle.hpb_device.specs.Reply.{reply_upiu}
 use Rattle.hpb_device.specs.Standing.{DeviceStands, DeviceStandsForeign, group_of, kept_of, programmed_of, sizes_of}
 use Rattle.hpb_device.specs.State.{DeviceState, IsSound}
 use Rattle.hpb_device.specs.Task.{IsWaiting}
-use Rattle.hpb_device.proofs.Entries.{ended_entries, entries_now, honoured_stays, tried_stays}
+use Rattle.hpb_device.proofs.Entries.{ended_entries, entries_now, honoured_stays, reply_lists_none, same_lists_none, tried_stays}
 use Rattle.hpb_device.proofs.Listings.{call_failed_listings, cut_listings, listings_now}
 use Rattle.hpb_device.proofs.StepStands.{Turn, at_head, first_is, flat, head_in, keeps_waiting, kept_same, others_in, sizes_same, stands_now, steps_cut}
 
@@ -160,7 +160,8 @@ module _ (old new : DeviceState) (was : IsUnready old) (is : IsStill old new) wh
   end_entries : (task : Task) (others : List Task) (out : List ℕ) (first : First) (e : History) → old.tasks ≡ task ∷ others → new.tasks ≡ others
       → out ≡ upiu_out (reply_upiu (check task ChipFailed)) → DeviceStands old first e → EntriesStand old e → EntriesStand new (e ▹ CallFailed ReadCall ▹ Device out)
   end_entries task others out first e head left sent at stand =
-      ended_entries (turn_of task others first e head at) (check task ChipFailed) out (e ▹ CallFailed ReadCall) sent is.pages left
+      ended_entries (turn_of task others first e head at) out (e ▹ CallFailed ReadCall)
+      (same_lists_none (sizes_of old) (e ▹ CallFailed ReadCall) out _ sent (reply_lists_none (sizes_of old) (e ▹ CallFailed ReadCall) (check task ChipFailed))) is.pages left
       (honoured_stays (sizes_of old) old.store.pages e (CallFailed ReadCall) (λ p. refl) stand.fresh)
 
   end_listings : (had : Place → Bool) (pages : ℕ) (task : Task) (others : List Task) (out : List ℕ) (first : First) (e : History) → old.tasks ≡ task ∷ others → new.tasks ≡ others

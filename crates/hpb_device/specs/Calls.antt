@@ -1,5 +1,5 @@
 -- What the calls of a device leave.
-use Rattle.std.specs.Prelude.{⊤, ◌≡◌, ◌≢◌, ◌⊎◌, ℕ, ◌+◌, ◌*◌, ◌<◌, ◌≤◌, List, [], ◌∷◌, ◌++◌, length, Option, Some, None, Bool, false, true}
+use Rattle.std.specs.Prelude.{⊤, ◌≡◌, ◌≢◌, ◌⊎◌, ℕ, ◌+◌, ◌*◌, ◌<◌, ◌≤◌, List, [], ◌∷◌, ◌++◌, length, map, Option, Some, None, Bool, false, true}
 use Rattle.std.specs.Bool.{OnFalse}
 use Rattle.std.specs.List.{AllByRecursion}
 use Rattle.hpb_outside.specs.Faults.{Rose, raised}
@@ -13,6 +13,7 @@ use Rattle.flash_store.specs.declared.answers.Phase.{Phase}
 use Rattle.flash_store.specs.declared.answers.Phase.TheVariants.{Scanning, Ready, Foreign}
 use Rattle.flash_store.specs.Collecting.{as_collected}
 use Rattle.flash_store.specs.Store.{IsCollected, IsCollectFault, IsSame, StoreState, collecting}
+use Rattle.region_state.specs.Machine.{after_reset}
 use Rattle.upiu_wire.specs.Upiu.{upiu_at, upiu_out}
 use Rattle.flat_unit.specs.Replays.{bound}
 use Rattle.hpb_device.specs.declared.device.Sent.{Sent}
@@ -30,7 +31,8 @@ use Rattle.hpb_device.specs.Counts.{counted, counted_moved, counted_step}
 use Rattle.hpb_device.specs.Advance.{Advances, IsSameStore, check, op_of}
 use Rattle.hpb_device.specs.Left.{steps_left, unscanned}
 use Rattle.hpb_device.specs.Limits.{limits_of}
-use Rattle.hpb_device.specs.Reply.{reply_upiu}
+use Rattle.hpb_device.specs.Regions.{regions_after, regions_moved, segment_told}
+use Rattle.hpb_device.specs.Reply.{reply_upiu, told_upiu}
 use Rattle.hpb_device.specs.Standing.{sizes_of}
 use Rattle.hpb_device.specs.State.{DeviceState, IsSound}
 use Rattle.hpb_device.specs.StoreCounts.{CountsStep}
@@ -87,14 +89,15 @@ abbrev pub moved_in : Internal → Option (ℕ × ℕ)
 moved_in (Collected moved) = moved_by moved
 moved_in _ = None
 
--- the tasks that are kept after a step, the data that are held, and what the step tells and sends
-abbrev pub Leaves : Progress → (others tasks : List Task) → (held : List ℕ) → Stepped → List ℕ → Type 0
-Leaves (Sends what rest) others tasks held result out = (tasks ≡ rest ∷ others) × (result ≡ stepped None None true)
-Leaves (Silent what rest) others tasks held result out =
+-- the tasks that are kept after a step, the data that are held, and what the step tells and sends: a GOOD RESPONSE has this
+-- segment
+abbrev pub Leaves : Progress → (segment : List ℕ) → (others tasks : List Task) → (held : List ℕ) → Stepped → List ℕ → Type 0
+Leaves (Sends what rest) segment others tasks held result out = (tasks ≡ rest ∷ others) × (result ≡ stepped None None true)
+Leaves (Silent what rest) segment others tasks held result out =
     (tasks ≡ rest ∷ others) × (result ≡ stepped None (moved_in what) false)
-Leaves (Ended reply) others tasks held result out =
-    (tasks ≡ others) × (held ≡ []) × (result ≡ stepped None None true) × (out ≡ upiu_out (reply_upiu reply))
-Leaves (Failed what reply) others tasks held result out =
+Leaves (Ended reply) segment others tasks held result out =
+    (tasks ≡ others) × (held ≡ []) × (result ≡ stepped None None true) × (out ≡ upiu_out (told_upiu segment reply))
+Leaves (Failed what reply) segment others tasks held result out =
     (tasks ≡ others) × (held ≡ []) × (result ≡ stepped (Some (op_of what)) None true)
     × (out ≡ upiu_out (reply_upiu reply))
 
@@ -115,7 +118,8 @@ pub record GoesOn (old new : DeviceState) (result : Stepped) (out : List ℕ) : 
   pub scanned : unscanned old ≡ 0
   pub sound : IsSound old
   pub advances : Advances (limits_of old.shape) old.store new.store old.held new.held task progress out
-  pub leaves : Leaves progress others new.tasks new.held result out
+  pub leaves : Leaves progress (segment_told old.shape old.regions task progress) others new.tasks new.held result out
+  pub regions : new.regions ≡ regions_after old.shape old.regions task progress
   pub same : IsSame old.store new.store
   pub calls : CountsStep old.store new.store task progress
   pub counts : new.counts ≡ counted old.counts progress
@@ -160,6 +164,7 @@ pub record Scans (old new : DeviceState) (result : Stepped) (out : List ℕ) : T
   pub hits : new.store.hits ≡ old.store.hits
   pub more : 0 < unscanned old
   pub waiting : AllByRecursion (IsWaiting old.store.luns (limits_of old.shape)) old.tasks
+  pub regions : new.regions ≡ old.regions
   pub held : new.held ≡ []
   pub counts : new.counts ≡ counted_step old.counts
   pub outcome : ReadsPage old new result ⊎ MissesPage old new result out
@@ -170,6 +175,7 @@ pub record Refuses (old new : DeviceState) (result : Stepped) (out : List ℕ) :
   pub scanned : unscanned old ≡ 0
   pub waiting : AllByRecursion (IsWaiting old.store.luns (limits_of old.shape)) old.tasks
   pub store : new.store ≡ old.store
+  pub regions : new.regions ≡ old.regions
   pub held : new.held ≡ []
   pub counts : new.counts ≡ counted_step old.counts
   pub ends : EndsUnread None old.tasks new.tasks result out
@@ -196,12 +202,14 @@ pub record MovesOn (old new : DeviceState) (moved : Moved) (result : Stepped) : 
   pub changes :
       Changes old.store.geometry old.store.luns old.store.units old.store.pages (as_collected moved) new.store.pages
   pub faults : new.store.faults ≡ old.store.faults
+  pub regions : new.regions ≡ regions_moved old.shape old.regions moved
   pub counts : new.counts ≡ counted_moved old.counts moved
   pub result_is : result ≡ stepped None (moved_by moved) false
 
 pub record FailsToMove (old new : DeviceState) (op : ChipOp) (result : Stepped) : Type 0 where
   pub fault : IsCollectFault old.store op new.store
   pub faults : Rose old.store.faults new.store.faults × (new.store.faults ≤ old.store.faults + 1)
+  pub regions : new.regions ≡ old.regions
   pub counts : new.counts ≡ old.counts
   pub result_is : result ≡ stepped (Some op) None false
 
@@ -218,9 +226,10 @@ pub record CollectsOn (old new : DeviceState) (result : Stepped) : Type 0 where
 abbrev pub Collects : (old new : DeviceState) → Stepped → Type 0
 Collects old new result = OnFalse result.idle (CollectsOn old new result)
 
--- the device after a reset: no task is kept, and its chip is scanned anew
+-- the device after a reset: no task is kept, its chip is scanned anew, and each host is to be told that all regions are forgotten
 abbrev pub reset_of : DeviceState → DeviceState
 reset_of device = record device {
+  regions = map after_reset device.regions;
   store = record device.store { phase = Scanning; scanned = 0; victim = None; buffer = None };
   tasks = [];
   held = [];

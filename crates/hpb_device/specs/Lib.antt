@@ -1,12 +1,14 @@
 pub mod Accept
 pub mod Advance
 pub mod Calls
+pub mod Counted
 pub mod Counts
 pub mod Entries
 pub mod Keeps
 pub mod Left
 pub mod Limits
 pub mod Listed
+pub mod Regions
 pub mod Reply
 pub mod Sizes
 pub mod Standing

@@ -1,5 +1,5 @@
 -- The UPIUs that a device sends without data of a command.
-use Rattle.std.specs.Prelude.{ℕ, []}
+use Rattle.std.specs.Prelude.{ℕ, List, []}
 use Rattle.hpb_sense.specs.declared.sense.FixedSense.{FixedSense}
 use Rattle.hpb_sense.specs.Sense.{fixed_out}
 use Rattle.upiu_wire.specs.declared.kind.Kind.TheVariants.{NopIn as NopInKind}
@@ -31,3 +31,8 @@ reply_upiu (Reject lun tag reason) = reject_upiu lun tag reason
 reply_upiu (Good lun tag residual) = response_upiu lun tag 0x00 residual []
 reply_upiu (TaskSetFull lun tag residual) = response_upiu lun tag 0x28 residual []
 reply_upiu (Check lun tag residual cause) = response_upiu lun tag 0x02 residual (fixed_out (cause_sense cause))
+
+-- GOOD with a segment; what isn't GOOD is as ever
+abbrev pub told_upiu : List ℕ → Reply → Upiu
+told_upiu segment (Good lun tag residual) = response_upiu lun tag 0x00 residual segment
+told_upiu segment reply = reply_upiu reply

@@ -4,11 +4,11 @@ use Rattle.flash_pages.specs.declared.chip.Geometry.{Geometry}
 use Rattle.hpb_cdb.specs.declared.limits.Limits.{Limits}
 use Rattle.flat_unit.specs.Sizes.{Sizes}
 
--- the opcodes of the commands that are served (SBC, SPC; HPB READ and READ BUFFER are this project's own)
+-- the opcodes of the commands that are served (SBC, SPC; HPB READ, READ BUFFER and WRITE BUFFER are this project's own)
 abbrev pub OPCODES : List ℕ
-OPCODES = 0x00 ∷ 0x25 ∷ 0x28 ∷ 0x2A ∷ 0x35 ∷ 0xF8 ∷ 0xF9 ∷ []
+OPCODES = 0x00 ∷ 0x25 ∷ 0x28 ∷ 0x2A ∷ 0x35 ∷ 0xF8 ∷ 0xF9 ∷ 0xFA ∷ []
 
--- all commands but WRITE BUFFER are served; after a reset each page of the chip is looked at
+-- all commands but the prefetch are served; after a reset each page of the chip is looked at
 abbrev pub sizes : ℕ → Limits → Geometry → Sizes
 sizes luns lim geometry = record {
   luns = luns;
@@ -20,6 +20,7 @@ sizes luns lim geometry = record {
   per_region = lim.per_region;
   per_sub = lim.per_sub;
   opcodes = OPCODES;
+  prefetches = false;
   queries = false;
   manages = false;
 }

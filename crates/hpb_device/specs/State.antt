@@ -1,5 +1,5 @@
 -- What a device is, to those who call it, and what it keeps true of its fields.
-use Rattle.std.specs.Prelude.{⊤, ◌≡◌, ◌≢◌, ℕ, ◌*◌, ◌≤◌, List, [], ◌∷◌, length}
+use Rattle.std.specs.Prelude.{⊤, ◌≡◌, ◌≢◌, ℕ, ◌*◌, ◌≤◌, List, [], ◌∷◌, length, map, replicate}
 use Rattle.std.specs.List.{AllByRecursion}
 use Rattle.hpb_outside.specs.declared.errors.NewFault.{NewFault}
 use Rattle.hpb_outside.specs.declared.errors.NewFault.TheVariants as fault
@@ -10,24 +10,27 @@ use Rattle.flash_store.specs.declared.answers.Phase.TheVariants.{Scanning, Ready
 use Rattle.flash_store.specs.Index.{CanServe}
 use Rattle.flash_store.specs.Store.{StoreState}
 use Rattle.region_state.specs.declared.shape.Shape.{Shape}
+use Rattle.region_state.specs.Machine.{Machine}
 use Rattle.region_state.specs.Shape.{IsWithinLimits}
 use Rattle.hpb_device.specs.declared.counts.Counts.{Counts}
 use Rattle.hpb_device.specs.declared.task.Task.{Task}
 use Rattle.hpb_device.specs.Limits.{limits_of}
 use Rattle.hpb_device.specs.Task.{WaitsForData, IsQueue, IsWaiting}
 
--- its store, the shape of each logical unit, the tasks in order of acceptance, the data of the first one that came last, and what
--- is counted
+-- its store, the shape of each logical unit, the regions of each, the tasks in order of acceptance, the data of the first one that
+-- came last, and what is counted
 pub record DeviceState : Type 0 where
   pub store : StoreState
   pub shape : Shape
+  pub regions : List Machine
   pub tasks : List Task
   pub held : List ℕ
   pub counts : Counts
 
 -- what a device keeps true of its fields: while its chip isn't ready, nothing is done yet for any task
-pub record IsDevice (store : StoreState) (shape : Shape) (luns : ℕ) (tasks : List Task) (held : List ℕ) (room : ℕ) : Type 0 where
+pub record IsDevice (store : StoreState) (shape : Shape) (luns : ℕ) (regions : List Machine) (tasks : List Task) (held : List ℕ) (room : ℕ) : Type 0 where
   pub limits : IsWithinLimits shape
+  pub shapes : map (λ (m : Machine). m.shape) regions ≡ replicate luns shape
   pub luns_served : store.luns ≡ luns
   pub units_served : store.units ≡ shape.units
   pub served : CanServe store.geometry luns shape.units

@@ -1,9 +1,9 @@
 -- The commands that a device keeps, and how far each has come.
-use Rattle.std.specs.Prelude.{◌≡◌, ◌⊎◌, ℕ, ◌+◌, ◌*◌, ◌%◌, ◌^◌, ◌<◌, ◌≤◌, ◌==◌, Bool, true, false, not, ◌&&◌, nat_lt, List, [], ◌∷◌, length, Option, Some, None}
+use Rattle.std.specs.Prelude.{◌≡◌, ◌⊎◌, ℕ, ◌+◌, ◌*◌, ◌/◌, ◌%◌, ◌^◌, ◌<◌, ◌≤◌, ◌==◌, Bool, true, false, not, ◌&&◌, nat_lt, List, [], ◌∷◌, length, Option, Some, None}
 use Rattle.std.specs.Bool.{OnTrue}
 use Rattle.std.specs.List.{AllByRecursion}
 use Rattle.hpb_cdb.specs.declared.cdb.Cdb.{Cdb}
-use Rattle.hpb_cdb.specs.declared.cdb.Cdb.TheVariants.{TestReady, Read, Write, Capacity, Sync, HpbRead, ReadBuffer}
+use Rattle.hpb_cdb.specs.declared.cdb.Cdb.TheVariants.{TestReady, Read, Write, Capacity, Sync, HpbRead, ReadBuffer, InactOne, InactAll}
 use Rattle.hpb_cdb.specs.declared.limits.Limits.{Limits}
 use Rattle.flat_unit.specs.Command.{is_write}
 use Rattle.hpb_device.specs.declared.task.Task.{Task}
@@ -31,7 +31,9 @@ IsServed lim (Sync lba n) = lba + n ≤ lim.units
 IsServed lim (Read lba n) = lba + n ≤ lim.units
 IsServed lim (Write lba n) = lba + n ≤ lim.units
 IsServed lim (HpbRead lba entry n id) = lba + n ≤ lim.units
-IsServed lim (ReadBuffer region sub len) = region * lim.per_region + sub * lim.per_sub < lim.units
+IsServed lim (ReadBuffer region sub len) = (sub < lim.per_region / lim.per_sub) × (region * lim.per_region + sub * lim.per_sub < lim.units)
+IsServed lim (InactOne region) = region * lim.per_region < lim.units
+IsServed lim InactAll = Unit {0}
 IsServed lim _ = ⊥
 
 -- a read that has sent nothing has an entry for its first block, and has not tried it

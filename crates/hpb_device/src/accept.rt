@@ -5,6 +5,7 @@ ghost use Rattle.std.specs.Bool.{OnTrue};
 ghost use Rattle.flash_pages.specs.declared.chip.Geometry.{Geometry};
 ghost use Rattle.hpb_cdb.specs.Cdb.{IsCdb};
 ghost use Rattle.upiu_wire.specs.Upiu.{upiu_at};
+ghost use Rattle.flat_unit.specs.Command.{serves_command};
 ghost use Rattle.flat_unit.specs.Reply.{fault_rejection};
 ghost use Rattle.flat_unit.specs.Task.{Task as Waiting};
 ghost use Rattle.hpb_device.specs.Accept.{IsVerdict, IsBegun, IsNextPiece, IsCommandOf, IsJudged, IsDataVerdict, Follows, goes_on};
@@ -40,6 +41,11 @@ const SYNCHRONIZE_CACHE_10: u8 = 0x35;
 const HPB_READ: u8 = 0xF8;
 
 const READ_BUFFER: u8 = 0xF9;
+
+const WRITE_BUFFER: u8 = 0xFA;
+
+/// The mode of WRITE BUFFER in which it prefetches entries. It isn't served.
+const PREFETCH: u8 = 0x02;
 
 /// What comes of the bytes of the host.
 pub enum Verdict<'a> {
@@ -171,7 +177,16 @@ fn is_opcode(opcode: u8) -> bool
             | SYNCHRONIZE_CACHE_10
             | HPB_READ
             | READ_BUFFER
+            | WRITE_BUFFER
     )
+}
+
+/// Whether the command of these bytes is served.
+fn is_served(cdb: &[u8]) -> bool
+    requires { length cdb.now ≡ 16 }
+    ensures { (luns : ℕ) (geometry : Geometry) (limits : Limits) → result ≡ serves_command (sizes luns limits geometry) cdb.now }
+{
+    is_opcode(cdb[0]) && !(cdb[0] == WRITE_BUFFER && cdb[1] == PREFETCH)
 }
 
 /// The bytes that a command sends by DATA IN.
@@ -193,7 +208,7 @@ fn command_of(limits: Limits, cdb: &[u8]) -> Result<Cdb, Cause>
     ensures served { IfOk result (IsServed limits) }
     ensures command_of { (luns : ℕ) (geometry : Geometry) → IsCommandOf (sizes luns limits geometry) cdb.now result }
 {
-    if !is_opcode(cdb[0]) {
+    if !is_served(cdb) {
         return Err(Cause::UnknownOpcode);
     }
     match hpb_cdb::parse(cdb, limits) {

@@ -1,13 +1,16 @@
-ghost use Rattle.std.specs.Prelude.{◌≡◌, ◌≢◌, ◌^◌, ◌≤◌, ◌↔◌, ◌<◌, ◌*◌, ◌⊎◌, ℕ, Bool, List, [], drop, length, vec_capacity, None, IsTrue, IfOk, IfErr, true, false};
+ghost use Rattle.std.specs.Prelude.{◌≡◌, ◌≢◌, ◌^◌, ◌≤◌, ◌↔◌, ◌<◌, ◌*◌, ◌⊎◌, ℕ, Bool, List, [], drop, length, vec_capacity, None, IsTrue, IfOk, IfErr, IfSome, replicate, true, false};
 ghost use Rattle.hpb_outside.specs.Faults.{Rose, raised};
 ghost use Rattle.flash_pages.specs.Chip.{Page};
 ghost use Rattle.flash_pages.specs.Place.{Place};
 ghost use Rattle.flash_pages.specs.Unit.{next_seq};
 ghost use Rattle.collector_laws.specs.Changes.{AreCollected};
 ghost use Rattle.flash_store.specs.Store.{IsStanding};
+ghost use Rattle.hpb_sense.specs.Sense.{IsHint};
+ghost use Rattle.region_state.specs.Machine.{start};
 ghost use Rattle.region_state.specs.Shape.{IsWithinLimits};
 ghost use Rattle.upiu_wire.specs.Upiu.{Upiu};
 ghost use Rattle.flat_unit.specs.declared.event.Event.TheVariants.{Host, Reset};
+ghost use Rattle.flat_unit.specs.Hints.{hint_segment};
 ghost use Rattle.flat_unit.specs.History.{History, ◌▹◌, followed_by};
 ghost use Rattle.flat_unit.specs.Queue.{tasks_after};
 ghost use Rattle.flat_unit.specs.Replays.{enough, events_of};
@@ -26,14 +29,16 @@ use crate::accept::{Verdict, judge};
 use crate::advance::{Internal, Progress, advance, check};
 use crate::counts::Counts;
 use crate::queue::{end_head, head_of, keep_head};
-use crate::reply::{Cause, Reply, put_reply};
+use crate::regions::{new_regions, reset_all, take_moved, take_progress};
+use crate::reply::{Cause, Reply, put_reply, put_told};
 use crate::task::{BURST_BYTES, TASKS, Task};
 use arrayvec::ArrayVec;
 use flash_pages::{ChipOp, Flash};
 use flash_store::{Moved, Phase, Store, can_serve};
 use hpb_cdb::Limits;
 use hpb_outside::{Failed, NewFault};
-use region_state::Shape;
+use hpb_sense::Hint;
+use region_state::{Regions, Shape};
 use std::alloc::Global;
 use std::marker::Model;
 use upiu_wire::UpiuBuf;
@@ -101,6 +106,7 @@ pub struct Device<F: Flash> {
     store: Store<F>,
     shape: Shape,
     luns: u8,
+    regions: Vec<Regions>,
     tasks: ArrayVec<Task, TASKS>,
     held: Vec<u8>,
     counts: Counts,
@@ -112,17 +118,19 @@ impl<F: Flash> Model for Device<F> {
 
     ghost Value = { DeviceState };
 
-    ghost view = { λ d. record { store = d.store; shape = d.shape; tasks = d.tasks.items; held = d.held.items; counts = d.counts } };
+    ghost view = { λ d. record { store = d.store; shape = d.shape; regions = d.regions.items; tasks = d.tasks.items; held = d.held.items; counts = d.counts } };
 
-    ghost invariant = { λ d. IsDevice d.store d.shape d.luns d.tasks.items d.held.items (vec_capacity d.held) };
+    ghost invariant = { λ d. IsDevice d.store d.shape d.luns d.regions.items d.tasks.items d.held.items (vec_capacity d.held) };
 }
 
 impl<F: Flash> Device<F> {
     ghost use Rattle.hpb_device.specs.Accept.{TakesPiece};
     ghost use Rattle.hpb_device.specs.Calls.{Collects, GoesOn, LeavesFewer, Receives, Refuses, Scans, Steps, TakesData, reset_of, uncollected_in};
+    ghost use Rattle.hpb_device.specs.Counted.{CountsStand};
     ghost use Rattle.hpb_device.specs.Entries.{EntriesStand};
     ghost use Rattle.hpb_device.specs.Keeps.{KeepsTasks};
     ghost use Rattle.hpb_device.specs.Listed.{ListingStands};
+    ghost use Rattle.hpb_device.specs.Regions.{HintsStand, KeepsHistory};
     ghost use Rattle.hpb_device.specs.Standing.{DeviceStands, DeviceStandsForeign, sizes_of, answer_events, first_of, group_of};
     ghost use Rattle.hpb_device.specs.State.{IsSound};
     ghost use Rattle.hpb_device.specs.Left.{KeepsNoWrite};
@@ -136,6 +144,7 @@ impl<F: Flash> Device<F> {
         ensures begun { IfOk result (λ device. IsNewFault NewFault.Memory (F.geometry flash) luns shape) }
 
         ensures tasks { IfOk result (λ device. device.tasks ≡ []) }
+        ensures regions { IfOk result (λ device. device.regions ≡ replicate luns (start shape)) }
         ensures counts { IfOk result (λ device. device.counts ≡ no_counts) }
         ensures shape { IfOk result (λ device. device.shape ≡ shape) }
         ensures luns { IfOk result (λ device. device.store.luns ≡ luns) }
@@ -151,6 +160,8 @@ impl<F: Flash> Device<F> {
         ensures stands { IfOk result (λ device. IsSound device → DeviceStands device (first_of device) []) }
         ensures foreign { IfOk result (λ device. ¬ IsSound device
             → DeviceStandsForeign device (F.pages flash) (first_of device) []) }
+        ensures hints { IfOk result (λ device. HintsStand device []) }
+        ensures counted { IfOk result (λ device. CountsStand device []) }
         ensures given_back { IfErr result (λ refused. refused.0 ≡ flash) }
     {
         if !shape.is_within_limits() || !can_serve(flash.geometry(), luns, shape.units) {
@@ -159,11 +170,15 @@ impl<F: Flash> Device<F> {
         let Ok(held) = Vec::with_capacity(alloc, BURST_BYTES) else {
             return Err((flash, NewFault::Memory));
         };
+        let Ok(regions) = new_regions(alloc, shape, luns) else {
+            return Err((flash, NewFault::Memory));
+        };
         let store = Store::new(alloc, flash, luns, shape.units)?;
         Ok(Device {
             store,
             shape,
             luns,
+            regions,
             tasks: ArrayVec::new(),
             held,
             counts: Counts::ZERO,
@@ -194,8 +209,13 @@ impl<F: Flash> Device<F> {
         ensures listings { (had : Place → Bool) (pages : ℕ) (first : First) (e : History)
             → DeviceStands self.old first e → ListingStands had pages self.old e
             → ListingStands had pages self.new (followed_by (e ▹ Host bytes.now) (answer_events result out.new)) }
+        ensures hints { (e : History) → KeepsHistory self.old e → HintsStand self.old e
+            → HintsStand self.new (followed_by (e ▹ Host bytes.now) (answer_events result out.new)) }
+        ensures counted { (first : First) (e : History) → DeviceStands self.old first e → CountsStand self.old e
+            → CountsStand self.new (followed_by (e ▹ Host bytes.now) (answer_events result out.new)) }
         ensures store { self.new.store ≡ self.old.store }
         ensures shape { self.new.shape ≡ self.old.shape }
+        ensures regions { self.new.regions ≡ self.old.regions }
         ensures counts { self.new.counts ≡ self.old.counts }
     {
         let limits = limits_of(self.shape);
@@ -226,6 +246,7 @@ impl<F: Flash> Device<F> {
         ensures taken { TakesData self.old self.new segment.now }
         ensures store { self.new.store ≡ self.old.store }
         ensures shape { self.new.shape ≡ self.old.shape }
+        ensures regions { self.new.regions ≡ self.old.regions }
         ensures counts { self.new.counts ≡ self.old.counts }
     {
         if let Some(task) = head_of(&self.tasks) {
@@ -248,6 +269,10 @@ impl<F: Flash> Device<F> {
         ensures listings { (had : Place → Bool) (pages : ℕ) (first : First) (e : History)
             → DeviceStands self.old first e → ListingStands had pages self.old e
             → ListingStands had pages self.new (followed_by e (events_of (group_of result out.new))) }
+        ensures hints { (e : History) → KeepsHistory self.old e → HintsStand self.old e
+            → HintsStand self.new (followed_by e (events_of (group_of result out.new))) }
+        ensures counted { (first : First) (e : History) → DeviceStands self.old first e → EntriesStand self.old e
+            → CountsStand self.old e → CountsStand self.new (followed_by e (events_of (group_of result out.new))) }
         ensures idle { IsTrue result.idle ↔ IsIdle self.old }
         ensures nothing { IsTrue result.idle → result ≡ at_rest }
         ensures unchanged { IsTrue result.idle → self.new ≡ self.old }
@@ -299,7 +324,8 @@ impl<F: Flash> Device<F> {
         let progress = advance(&mut self.store, &mut self.held, task, limits, out);
         let counts = self.counts.after(progress);
         self.counts = counts;
-        leave(progress, &mut self.tasks, &mut self.held, out)
+        let hint = take_progress(&mut self.regions, task, progress);
+        leave(progress, hint, &mut self.tasks, &mut self.held, out)
     }
 
     /// Ends the head on a foreign chip.
@@ -333,8 +359,13 @@ impl<F: Flash> Device<F> {
             → EntriesStand self.new (followed_by e (events_of (group_of result []))) }
         ensures listings { (had : Place → Bool) (pages : ℕ) (e : History) → ListingStands had pages self.old e
             → ListingStands had pages self.new (followed_by e (events_of (group_of result []))) }
+        ensures hints { (e : History) → HintsStand self.old e
+            → HintsStand self.new (followed_by e (events_of (group_of result []))) }
+        ensures counted { (e : History) → CountsStand self.old e
+            → CountsStand self.new (followed_by e (events_of (group_of result []))) }
         ensures nothing { IsTrue result.idle → result ≡ at_rest }
         ensures unready { self.old.store.phase ≢ Phase.Ready → IsTrue result.idle × (self.new ≡ self.old) }
+        ensures sound { self.old.store.phase ≡ Phase.Ready → IsSound self.old }
         ensures unchanged { IsTrue result.idle → self.new ≡ self.old }
         ensures collects { Collects self.old self.new result }
         ensures fewer { OnFalse result.idle (result.failed ≡ None → uncollected_in self.new < uncollected_in self.old) }
@@ -357,6 +388,7 @@ impl<F: Flash> Device<F> {
             Ok(Moved::Read) => Stepped::new(None, None, false),
             Ok(Moved::Page(lun, lba)) => {
                 self.counts = self.counts.after_moved(Moved::Page(lun, lba));
+                take_moved(&mut self.regions, Moved::Page(lun, lba));
                 Stepped::new(None, Some((lun, lba)), false)
             }
             Ok(Moved::Erased(block)) => {
@@ -377,8 +409,11 @@ impl<F: Flash> Device<F> {
         ensures entries { (e : History) → EntriesStand self.old e → EntriesStand self.new (e ▹ Reset) }
         ensures listings { (had : Place → Bool) (pages : ℕ) (e : History) → ListingStands had pages self.old e
             → ListingStands had pages self.new (e ▹ Reset) }
+        ensures hints { (e : History) → HintsStand self.old e → HintsStand self.new (e ▹ Reset) }
+        ensures counted { (e : History) → CountsStand self.old e → CountsStand self.new (e ▹ Reset) }
         ensures left { steps_left self.new ≡ self.old.store.geometry.blocks * self.old.store.geometry.pages }
     {
+        reset_all(&mut self.regions);
         self.tasks.clear();
         self.held.clear();
         self.store.reset();
@@ -413,15 +448,17 @@ impl<F: Flash> Device<F> {
     }
 }
 
-/// Leaves the tasks as a step of the first one has them, and answers it where it is over.
+/// Leaves the tasks as a step of the first one has them, and answers it where it is over, with this hint where that is GOOD.
 fn leave(
     progress: Progress,
+    hint: Option<Hint>,
     tasks: &mut ArrayVec<Task, TASKS>,
     held: &mut Vec<u8>,
     out: &mut UpiuBuf,
 ) -> Stepped
-    requires { 0 < length tasks.old.items }
-    ensures leaves { Leaves progress (drop 1 tasks.old.items) tasks.new.items held.new.items result out.new }
+    requires some { 0 < length tasks.old.items }
+    requires writable { IfSome hint IsHint }
+    ensures leaves { Leaves progress (hint_segment hint) (drop 1 tasks.old.items) tasks.new.items held.new.items result out.new }
     ensures stays { Stays progress held.old.items held.new.items out.old out.new }
     ensures room { vec_capacity held.new ≡ vec_capacity held.old }
 {
@@ -440,7 +477,7 @@ fn leave(
         }
         Progress::Ended(reply) => {
             end_head(tasks, held);
-            put_reply(reply, out);
+            put_told(reply, hint, out);
             Stepped::new(None, None, true)
         }
         Progress::Failed(call, reply) => {

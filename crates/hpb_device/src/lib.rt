@@ -6,6 +6,7 @@ mod advance;
 mod counts;
 mod device;
 mod queue;
+mod regions;
 mod reply;
 mod task;
 

@@ -1,8 +1,10 @@
-ghost use Rattle.std.specs.Prelude.{◌≡◌, ◌<◌};
+ghost use Rattle.std.specs.Prelude.{◌≡◌, ◌<◌, IfSome};
 ghost use Rattle.upiu_wire.specs.Upiu.{upiu_out};
-ghost use Rattle.hpb_device.specs.Reply.{cause_sense, reply_upiu};
+ghost use Rattle.hpb_sense.specs.Sense.{IsHint};
+ghost use Rattle.flat_unit.specs.Hints.{hint_segment};
+ghost use Rattle.hpb_device.specs.Reply.{cause_sense, reply_upiu, told_upiu};
 
-use hpb_sense::{FixedSense, put_fixed};
+use hpb_sense::{FixedSense, Hint, put_fixed, put_hint};
 use upiu_wire::UpiuBuf;
 
 /// The status of a command that succeeded (SAM).
@@ -14,7 +16,7 @@ const CHECK_CONDITION: u8 = 0x02;
 /// The status where no more tasks can be kept (SAM).
 const TASK_SET_FULL: u8 = 0x28;
 
-/// The bytes of a segment with fixed sense.
+/// The bytes of a segment with fixed sense, or with a hint.
 const SENSE_BYTES: usize = 20;
 
 /// Why a command ends with CHECK CONDITION (SPC, sense data). Which code stands for which event is this project's own.
@@ -81,7 +83,22 @@ pub enum Reply {
     },
 }
 
-/// Writes the UPIU of a reply.
+/// Writes the UPIU of a reply, with this hint where it is GOOD.
+pub fn put_told(reply: Reply, hint: Option<Hint>, out: &mut UpiuBuf)
+    requires { IfSome hint IsHint }
+    ensures { out.new ≡ upiu_out (told_upiu (hint_segment hint) reply) }
+{
+    match (reply, hint) {
+        (Reply::Good { lun, tag, residual }, Some(hint)) => {
+            let mut segment = [0; SENSE_BYTES];
+            put_hint(&hint, &mut segment);
+            out.put_response(lun, tag, GOOD, residual, &segment);
+        }
+        _ => put_reply(reply, out),
+    }
+}
+
+/// Writes the UPIU of a reply. GOOD has no hint.
 pub fn put_reply(reply: Reply, out: &mut UpiuBuf)
     ensures { out.new ≡ upiu_out (reply_upiu reply) }
 {

@@ -5,7 +5,7 @@ use super::*;
 /// A device of 20 blocks that are written in an order without pattern, what each block is, and how many pages are erased.
 #[derive(Drop)]
 struct Run {
-    device: Device<MemFlash>,
+    bench: Bench,
     /// The byte of which each block consists that was programmed last.
     last: [u8; 20],
     /// Where the order stands: the write that is under way, or comes next.
@@ -24,21 +24,25 @@ struct Run {
 /// What a call did: the call of the chip, and whether that failed.
 type Made = Option<(ChipOp, bool)>;
 
-/// A run over an erased chip that was scanned, of whose calls this one fails.
-fn begun(alloc: Global, most: u32, fail_at: u64) -> Result<Run, Fail> {
-    Ok(Run {
-        device: scanned(alloc, 1, 20, fail_at)?,
-        last: [0; 20],
-        turn: 1,
-        most,
-        come: 0,
-        programmed: 0,
-        room: 32,
-        made: [0; 3],
-    })
-}
-
 impl Run {
+    /// A run over an erased chip that was scanned, of whose calls this one fails.
+    fn new(alloc: Global, most: u32, fail_at: u64) -> Result<Run, Fail> {
+        let setup = Setup {
+            fail_at: [fail_at, 0, 0],
+            ..SCANNED
+        };
+        Ok(Run {
+            bench: setup.bench(alloc)?,
+            last: [0; 20],
+            turn: 1,
+            most,
+            come: 0,
+            programmed: 0,
+            room: 32,
+            made: [0; 3],
+        })
+    }
+
     /// The first block of the write, the number of its blocks, and the byte of which they consist.
     fn write(&self) -> (u8, u8, u8) {
         let n = if self.most > 1 && self.turn / 16_777_216 % 2 == 1 {
@@ -53,55 +57,59 @@ impl Run {
         )
     }
 
-    /// The write is over, and is to be made again.
-    fn end(&mut self) {
-        self.come = 0;
-        self.programmed = 0;
-    }
-
     /// Makes a call of the device: a step where it needs one, else the data that it waits for, or the next write.
     fn call(&mut self) -> Result<Made, Fail> {
         let (lba, n, byte) = self.write();
-        let mut upiu = UpiuBuf::new();
-        match self.device.waits() {
+        let is_refused = match self.bench.waits() {
             Waits::Step => return self.step(),
             Waits::Host => {
-                upiu.put_data_out(0, 2, 4096 * u32::from(self.come), &[byte; BLOCK_BYTES]);
-                self.come = self.come.saturating_add(1);
+                let number = self.come;
+                self.come = number.saturating_add(1);
+                self.bench.data(number, byte)
             }
-            Waits::Nothing => put_transfer(&mut upiu, 2, 0x2A, lba, n),
+            Waits::Nothing => {
+                let cdb = transfer(0x2A, lba, n);
+                self.bench.command(2, 4096 * u32::from(n), cdb)
+            }
+        };
+        if is_refused {
+            return Err(Fail::new("refused"));
         }
-        let mut answer = UpiuBuf::new();
-        match self.device.receive(upiu.bytes(), &mut answer) {
-            Sent::Nothing => Ok(None),
-            Sent::Upiu => Err(Fail::new("refused")),
-        }
+        Ok(None)
     }
 
     /// Makes a step of the write.
     fn step(&mut self) -> Result<Made, Fail> {
-        let erased = self.device.counts().erased;
-        let mut upiu = UpiuBuf::new();
-        let stepped = self.device.step(&mut upiu);
-        if let Some(op) = stepped.failed {
-            let ends = is_answer(&upiu, true);
-            self.end();
-            return self.told(ends && stepped.sent, Some((op, true)));
-        }
+        let stepped = self.bench.step();
         if stepped.sent {
-            if upiu.bytes().first() == Some(&0x31) {
-                return self.told(stepped.moved.is_none(), None);
-            }
-            let (_, n, _) = self.write();
-            let ends = is_answer(&upiu, false) && self.programmed == n;
-            self.end();
-            self.turn = self.turn.wrapping_mul(1_103_515_245).wrapping_add(12_345);
-            return self.told(ends, None);
+            return self.answered(stepped);
         }
         if self.room > 4 {
             return self.program(stepped);
         }
-        self.collected(stepped, erased)
+        self.collected(stepped)
+    }
+
+    /// The device asked for data, or answered the write: with GOOD where all its blocks are programmed, and with 0Ch/00h
+    /// where a call failed, after which it is made again.
+    fn answered(&mut self, stepped: Stepped) -> Result<Made, Fail> {
+        let (_, n, _) = self.write();
+        let upiu = self.bench.upiu();
+        let kind = upiu.first().copied();
+        let status = upiu.get(7).copied();
+        let sense = (upiu.get(36).copied(), upiu.get(46).copied());
+        let is_whole = self.programmed == n;
+        if kind == Some(0x31) {
+            return self.told(stepped.failed.is_none(), None);
+        }
+        self.come = 0;
+        self.programmed = 0;
+        if let Some(op) = stepped.failed {
+            let is_failure = status == Some(2) && sense == (Some(3), Some(0x0C));
+            return self.told(is_failure, Some((op, true)));
+        }
+        self.turn = self.turn.wrapping_mul(1_103_515_245).wrapping_add(12_345);
+        self.told(is_whole && status == Some(0), None)
     }
 
     /// The host's block was programmed, which is so wherever more than an erase block's worth of pages is erased.
@@ -115,24 +123,25 @@ impl Run {
         self.programmed = self.programmed.saturating_add(1);
         self.room = self.room.saturating_sub(1);
         self.made[0] = self.made[0].saturating_add(1);
-        let alone = !stepped.idle && stepped.moved.is_none();
-        self.told(alone, Some((ChipOp::Program, false)))
+        let is_alone = !stepped.idle && stepped.moved.is_none();
+        self.told(is_alone, Some((ChipOp::Program, false)))
     }
 
-    /// What the collector did in a step, before which so many erase blocks had been erased.
-    fn collected(&mut self, stepped: Stepped, erased: u64) -> Result<Made, Fail> {
+    /// What the collector did in a step.
+    fn collected(&mut self, stepped: Stepped) -> Result<Made, Fail> {
+        let [_, _, _, _, erased] = self.bench.counts();
         if let Some(op) = stepped.failed {
-            return self.told(!stepped.sent, Some((op, true)));
+            return self.told(true, Some((op, true)));
         }
         if stepped.idle {
-            return self.told(stepped.moved.is_none(), None);
+            return self.told(true, None);
         }
         if let Some((lun, lba)) = stepped.moved {
             self.room = self.room.saturating_sub(1);
             self.made[1] = self.made[1].saturating_add(1);
             return self.told(lun == 0 && lba < 20, Some((ChipOp::Program, false)));
         }
-        if self.device.counts().erased != erased {
+        if erased != self.made[2] {
             self.room = self.room.saturating_add(4);
             self.made[2] = self.made[2].saturating_add(1);
             return self.told(true, Some((ChipOp::Erase, false)));
@@ -140,28 +149,21 @@ impl Run {
         self.told(true, Some((ChipOp::Read, false)))
     }
 
-    /// Makes a step of the collector.
-    fn collect(&mut self) -> Result<Made, Fail> {
-        let erased = self.device.counts().erased;
-        let stepped = self.device.collect();
-        self.collected(stepped, erased)
-    }
-
     /// What a call did, if it was in order and the counts are.
     fn told(&self, is_ok: bool, made: Made) -> Result<Made, Fail> {
-        let counts = self.device.counts();
-        if is_ok && counts.moved == self.made[1] && counts.erased == self.made[2] {
-            Ok(made)
-        } else {
-            Err(Fail::new("out of order"))
+        let [_, _, _, moved, erased] = self.bench.counts();
+        if is_ok && moved == self.made[1] && erased == self.made[2] {
+            return Ok(made);
         }
+        Err(Fail::new("out of order"))
     }
 
-    /// Makes so many calls, of which each third is one of the collector.
-    fn calls(&mut self, count: u32) -> Result<(), Fail> {
+    /// Makes so many calls, of which each third may be one of the collector.
+    fn calls(&mut self, count: u32, collects: bool) -> Result<(), Fail> {
         for number in 0..count {
-            let _made = if number % 3 == 2 {
-                self.collect()?
+            let _made = if collects && number % 3 == 2 {
+                let stepped = self.bench.collect();
+                self.collected(stepped)?
             } else {
                 self.call()?
             };
@@ -169,44 +171,42 @@ impl Run {
         Ok(())
     }
 
-    /// Makes so many calls of the chip for writes, and tells each.
-    fn chip_calls(&mut self, alloc: Global, count: usize) -> Result<Vec<(ChipOp, bool)>, Fail> {
-        let mut made = Vec::new(alloc);
-        for _call in 0..10_000 {
-            if made.len() >= count {
+    /// Makes calls until one of them calls the chip, and tells that.
+    fn chip_call(&mut self) -> Result<(ChipOp, bool), Fail> {
+        for _call in 0..100 {
+            if let Some(made) = self.call()? {
                 return Ok(made);
             }
-            if let Some(one) = self.call()? {
-                made.push(one)?;
-            }
         }
-        Err(Fail::new("too few calls"))
+        Err(Fail::new("no call of the chip"))
     }
 
-    /// Drops the write that is under way, by a reset, and scans the chip.
-    fn reset(&mut self) -> Result<bool, Fail> {
-        let counts = self.device.counts();
-        self.device.reset();
-        self.end();
-        let stay = self.device.counts() == counts && self.device.waits() == Waits::Nothing;
-        Ok(stay && scan(&mut self.device)? == 32)
+    /// Makes the calls that the write needs to end.
+    fn finish(&mut self) -> Result<(), Fail> {
+        for _call in 0..100 {
+            if self.bench.waits() == Waits::Nothing {
+                return Ok(());
+            }
+            let _made = self.call()?;
+        }
+        Err(Fail::new("no end of the write"))
     }
 
     /// The entry of each block, where it isn't `u64::MAX`.
-    fn entries(&mut self, alloc: Global) -> Result<Vec<u64>, Fail> {
-        let mut sent = Vec::new(alloc);
-        let mut bytes = Vec::new(alloc);
-        push_words(&mut bytes, "01400006 z z 000000a0 f9010000 z a0000000 z")?;
-        receive(&mut self.device, &bytes, &mut sent)?;
-        drain(&mut self.device, &mut sent)?;
-        let mut entries = Vec::new(alloc);
-        for key in 0..20usize {
-            let mut entry = 0;
-            for place in 0..8usize {
-                let byte = sent.get(32 + 8 * key + place).copied().unwrap_or(0);
-                entry = entry << 8 | u64::from(byte);
-            }
-            entries.push(entry)?;
+    fn entries(&mut self, alloc: Global) -> Result<[u64; 20], Fail> {
+        let mut cdb = [0; 16];
+        cdb[0] = 0xF9;
+        cdb[1] = 1;
+        cdb[8] = 160;
+        let mut told = Vec::new(alloc);
+        if self.bench.command(6, 160, cdb) {
+            return Err(Fail::new("refused"));
+        }
+        drain(&mut self.bench, &mut told)?;
+        let mut entries = [0; 20];
+        for place in 0..160usize {
+            let byte = told.get(32 + place).copied().unwrap_or(0);
+            entries[place / 8] = entries[place / 8] << 8 | u64::from(byte);
         }
         Ok(entries)
     }
@@ -214,150 +214,129 @@ impl Run {
     /// Whether each block is the one that was programmed last, by READ(10) and by its entry, and whether that is
     /// counted exactly.
     fn is_kept(&mut self, alloc: Global) -> Result<bool, Fail> {
-        let mut counts = self.device.counts();
+        let [steps, lookups, by_entry, moved, erased] = self.bench.counts();
         let entries = self.entries(alloc)?;
-        // the list of entries and its answer
-        counts.steps = counts.steps.saturating_add(2);
-        for key in 0..20u8 {
-            let last = self.last[key as usize];
-            let Some(entry) = entries.get(key as usize).copied() else {
-                return Ok(false);
-            };
-            let device = &mut self.device;
-            if !shows(device, key, last) || !shows_by_entry(device, key, entry, last) {
+        // the blocks that were never written: both reads look them up, after a step for the entry
+        let mut blank: u64 = 0;
+        for lba in 0..20u8 {
+            let last = self.last[lba as usize];
+            let entry = entries[lba as usize];
+            let read = block(alloc, &mut self.bench, transfer(0x28, lba, 1))?;
+            let again = block(alloc, &mut self.bench, read_by_entry(lba, entry))?;
+            if read != last || again != last {
                 return Ok(false);
             }
             if entry == u64::MAX {
-                // it was never written: both reads look it up, after a step for the entry
-                if last != 0 {
-                    return Ok(false);
-                }
-                counts.steps = counts.steps.saturating_add(5);
-                counts.lookups = counts.lookups.saturating_add(2);
-            } else {
-                counts.steps = counts.steps.saturating_add(4);
-                counts.lookups = counts.lookups.saturating_add(1);
-                counts.entries = counts.entries.saturating_add(1);
+                blank = blank.saturating_add(1);
             }
         }
-        Ok(self.device.counts() == counts)
+        // the list of entries and its answer, and each block and its answer
+        let counts = [
+            steps.saturating_add(82).saturating_add(blank),
+            lookups.saturating_add(20).saturating_add(blank),
+            by_entry.saturating_add(20).saturating_sub(blank),
+            moved,
+            erased,
+        ];
+        Ok(self.bench.counts() == counts)
     }
 
-    /// Makes the calls that the write needs to end.
-    fn finish(&mut self) -> Result<(), Fail> {
+    /// Drops the write that is under way, by a reset, and tells whether each block is kept once the chip is scanned.
+    fn is_kept_by_a_reset(&mut self, alloc: Global) -> Result<bool, Fail> {
+        self.bench.reset();
+        self.come = 0;
+        self.programmed = 0;
+        Ok(self.bench.scan()? == 32 && self.is_kept(alloc)?)
+    }
+
+    /// Whether many writes keep the blocks, alone or with calls of the collector between.
+    fn is_kept_by_writes(&mut self, alloc: Global, collects: bool) -> Result<bool, Fail> {
+        self.calls(20_000, collects)?;
+        self.finish()?;
+        let [written, moved, erased] = self.made;
+        let are_many = written > 2000 && moved > 2000 && erased > 1000;
+        Ok(are_many && self.is_kept(alloc)? && self.is_kept_by_a_reset(alloc)?)
+    }
+
+    /// Whether a reset after so many calls keeps the blocks, and another one after more calls.
+    fn is_kept_by_resets(&mut self, alloc: Global, count: u32) -> Result<bool, Fail> {
+        self.calls(count, true)?;
+        let is_kept = self.is_kept_by_a_reset(alloc)?;
+        if count % 8 != 0 {
+            return Ok(is_kept);
+        }
+        self.calls(60, true)?;
+        Ok(is_kept && self.is_kept_by_a_reset(alloc)?)
+    }
+
+    /// Makes a hundred calls of the chip, some of each kind, and tells them.
+    fn chip_calls(&mut self, alloc: Global) -> Result<Vec<ChipOp>, Fail> {
+        let mut made = Vec::new(alloc);
         for _call in 0..100 {
-            if self.device.waits() == Waits::Nothing {
-                return Ok(());
+            let (op, _) = self.chip_call()?;
+            made.push(op)?;
+        }
+        let [_, moved, erased] = self.made;
+        if moved == 0 || erased == 0 {
+            return Err(Fail::new("too few calls"));
+        }
+        Ok(made)
+    }
+
+    /// Whether these calls of the chip are made, and the one that fails, at this place, is made again.
+    fn is_made_again(&mut self, calls: &[ChipOp], place: usize) -> Result<bool, Fail> {
+        for (number, op) in calls.iter().copied().enumerate() {
+            if number == place && self.chip_call()? != (op, true) {
+                return Ok(false);
             }
-            let _made = self.call()?;
+            if self.chip_call()? != (op, false) {
+                return Ok(false);
+            }
         }
-        Err(Fail::new("no end of the write"))
+        Ok(true)
     }
 }
 
-/// Whether an answer to the write is GOOD or, where it failed, 0Ch/00h.
-fn is_answer(upiu: &UpiuBuf, failed: bool) -> bool {
-    let bytes = upiu.bytes();
-    let sense = (
-        bytes.get(36).copied(),
-        bytes.get(46).copied(),
-        bytes.get(47).copied(),
-    );
-    let status = bytes.get(7).copied();
-    bytes.first() == Some(&0x21)
-        && if failed {
-            status == Some(2) && sense == (Some(3), Some(0x0C), Some(0))
-        } else {
-            status == Some(0) && bytes.len() == 32
-        }
-}
-
-/// Whether a read of a block by this entry is GOOD, and the block begins and ends with this byte.
-fn shows_by_entry(device: &mut Device<MemFlash>, lba: u8, entry: u64, byte: u8) -> bool {
-    let mut cdb = [0; 16];
-    cdb[0] = 0xF8;
-    cdb[5] = lba;
-    cdb[6..14].copy_from_slice(&entry.to_be_bytes());
-    cdb[14] = 1;
-    let mut upiu = UpiuBuf::new();
-    upiu.put_command(0, 5, 0, 4096, &cdb);
-    sends_block(device, &upiu, byte)
-}
-
-/// How many of so many pages of a chip are erased.
-fn erased_of(alloc: Global, flash: &mut MemFlash, count: u32) -> Result<u64, Fail> {
-    let mut erased: u64 = 0;
-    for page in pages_of(alloc, flash, count)? {
-        if page.is_none() {
-            erased = erased.saturating_add(1);
+/// The number of calls after which a reset doesn't keep the blocks.
+fn lost_by_a_reset(alloc: Global) -> Result<Option<u32>, Fail> {
+    for count in 0..400 {
+        if !Run::new(alloc, 2, 0)?.is_kept_by_resets(alloc, count)? {
+            return Ok(Some(count));
         }
     }
-    Ok(erased)
+    Ok(None)
+}
+
+/// The call of the chip after whose failure the write isn't made again.
+fn lost_by_a_failure(alloc: Global) -> Result<Option<usize>, Fail> {
+    let calls = Run::new(alloc, 1, 0)?.chip_calls(alloc)?;
+    for place in 0..100usize {
+        // the scan made 32 calls
+        let mut run = Run::new(alloc, 1, place as u64 + 33)?;
+        if !run.is_made_again(&calls, place)? || !run.is_kept_by_a_reset(alloc)? {
+            return Ok(Some(place));
+        }
+    }
+    Ok(None)
 }
 
 #[test]
 fn overwritten_blocks_are_kept(rt: HostRuntime) -> Result<(), Fail> {
-    // writes alone, and with calls of the collector between
-    for (alone, mixed) in [(20_000, 0), (0, 20_000)] {
-        let mut run = begun(rt.alloc(), 2, 0)?;
-        for _call in 0..alone {
-            let _made = run.call()?;
-        }
-        run.calls(mixed)?;
-        run.finish()?;
-        let [written, moved, erased] = run.made;
-        assert!(rt; written > 2000 && moved > 2000 && erased > 1000, "{alone}");
-        assert!(rt; run.is_kept(rt.alloc())?, "{alone}");
-        assert!(rt; run.reset()? && run.is_kept(rt.alloc())?, "{alone}");
-        let room = run.room;
-        let mut flash = run.device.into_flash();
-        assert_eq!(rt; erased_of(rt.alloc(), &mut flash, 32)?, room, "{alone}");
-        // each page that was programmed used one up, and each erase gave four
-        let used = written.saturating_add(moved).saturating_add(room);
-        let given = erased.saturating_mul(4).saturating_add(32);
-        assert_eq!(rt; used, given, "{alone}");
+    for collects in [false, true] {
+        let mut run = Run::new(rt.alloc(), 2, 0)?;
+        assert!(rt; run.is_kept_by_writes(rt.alloc(), collects)?, "{collects}");
     }
     Ok(())
 }
 
 #[test]
 fn a_reset_after_each_call_keeps_the_blocks(rt: HostRuntime) -> Result<(), Fail> {
-    for count in 0..400 {
-        let mut run = begun(rt.alloc(), 2, 0)?;
-        run.calls(count)?;
-        assert!(rt; run.reset()? && run.is_kept(rt.alloc())?, "{count}");
-        if count % 8 == 0 {
-            // the writes go on
-            run.calls(60)?;
-            assert!(rt; run.reset()? && run.is_kept(rt.alloc())?, "{count}");
-        }
-    }
+    assert_eq!(rt; lost_by_a_reset(rt.alloc())?, None);
     Ok(())
 }
 
 #[test]
 fn a_call_that_failed_for_a_write_is_made_again(rt: HostRuntime) -> Result<(), Fail> {
-    let whole = begun(rt.alloc(), 1, 0)?.chip_calls(rt.alloc(), 100)?;
-    for place in 0..100usize {
-        let mut run = begun(rt.alloc(), 1, place as u64 + 33)?;
-        let made = run.chip_calls(rt.alloc(), 100)?;
-        for (number, one) in made.iter().copied().enumerate() {
-            let before = if number > place { number - 1 } else { number };
-            let Some((op, _)) = whole.get(before).copied() else {
-                return Err(Fail::new("too many calls"));
-            };
-            assert!(rt; one == (op, number == place), "{place} {number}");
-        }
-        assert!(rt; run.reset()? && run.is_kept(rt.alloc())?, "{place}");
-    }
-    let mut found = [false; 3];
-    for (op, _) in whole.iter().copied() {
-        match op {
-            ChipOp::Read => found[0] = true,
-            ChipOp::Program => found[1] = true,
-            ChipOp::Erase => found[2] = true,
-        }
-    }
-    assert_eq!(rt; found, [true; 3]);
+    assert_eq!(rt; lost_by_a_failure(rt.alloc())?, None);
     Ok(())
 }

@@ -6,6 +6,8 @@ use Rattle.hpb_cdb.specs.declared.limits.Limits.{Limits}
 use Rattle.hpb_device.specs.declared.task.Task.{Task}
 use Rattle.hpb_device.specs.Advance.{Advances, AllTasks}
 use Rattle.hpb_device.specs.Counts.{counted}
+use Rattle.hpb_device.specs.Calls.{Leaves}
+use Rattle.hpb_device.specs.Regions.{regions_after, segment_told}
 use Rattle.hpb_device.specs.Left.{steps_left, steps_of, tasks_left, unscanned, wait_of}
 use Rattle.hpb_device.specs.Limits.{limits_of}
 use Rattle.hpb_device.specs.State.{DeviceState, IsSound}
@@ -13,6 +15,7 @@ use Rattle.hpb_device.specs.StoreCounts.{CountsStep}
 use Rattle.hpb_device.specs.Task.{IsQueue, IsTaskOk}
 use Rattle.hpb_device.proofs.Chips.{whole_after}
 use Rattle.hpb_device.proofs.Commands.{first_of}
+use Rattle.hpb_device.proofs.Hinting.{progress_within}
 use Rattle.hpb_device.proofs.Leaving.{leaves_queue, on_false, still_advances}
 use Rattle.hpb_device.proofs.Left.{leaves_fewer, wait_most}
 use Rattle.hpb_device.proofs.device.Device.advance_head.Given.{Over}
@@ -21,12 +24,13 @@ use Rattle.hpb_device.proofs.device.Device.advance_head.Goals as goal
 
 -- the device before the step, and after it
 abbrev before : (g : Over) → After-leave g → DeviceState
-before g c = let s = c.self.inside in record { store = s.store; shape = s.shape; tasks = s.tasks.items; held = s.held.items; counts = s.counts }
+before g c = let s = c.self.inside in record { store = s.store; shape = s.shape; regions = s.regions.items; tasks = s.tasks.items; held = s.held.items; counts = s.counts }
 
 abbrev after : (g : Over) → After-leave g → DeviceState
 after g c = record {
   store = c.advance-progress.new.store;
   shape = c.self.inside.shape;
+  regions = c.take_progress-hint.new.machines.items;
   tasks = c.leave.new.tasks.items;
   held = c.leave.new.held.items;
   counts = c.after-counts.result;
@@ -83,7 +87,8 @@ invariant_of-self g c =
       units_served = same.units ∙ c.self.invariant.units_served;
       served = rw (same.geometry) (c.self.invariant.served);
       whole = whole.count ∙ (c.self.invariant.whole ∙ ap (λ (geometry : Geometry). geometry.blocks * geometry.pages) (sym same.geometry));
-      queue = leaves_queue s.luns lim p.result _ c.leave.new.tasks.items p.new.held.items c.leave.new.held.items c.leave.result _ _ c.leave.ensures.leaves c.leave.ensures.stays ok p.ensures.held queue.2;
+      shapes = c.take_progress-hint.ensures.shapes ∙ c.self.invariant.shapes;
+      queue = leaves_queue _ s.luns lim p.result _ c.leave.new.tasks.items p.new.held.items c.leave.new.held.items c.leave.result _ _ c.leave.ensures.leaves c.leave.ensures.stays ok p.ensures.held queue.2;
       burst = omega (arith, c.self.invariant.burst, c.leave.ensures.room, p.ensures.room);
       unbegun = λ other. absurd (other (same.phase ∙ is_ready g c));
     }
@@ -104,7 +109,7 @@ returns-clause-fewer g c =
     let few = wait_most n.store (omega (arith, some, same_pages)) in
     let less : AllTasks (λ rest. steps_of lim pages now rest < steps_of lim pages (wait_of d.store) task) p.result =
     subst (λ (l : Limits). AllTasks (λ rest. steps_of l pages now rest < steps_of l pages (wait_of d.store) task) p.result) c.limits_of-limits.ensures p.ensures.fewer in
-    let fewer = leaves_fewer lim pages (wait_of d.store) now task p.result (others g c) n.tasks n.held c.leave.result c.leave.new.out (omega (arith, few, same_pages)) c.leave.ensures.leaves less in
+    let fewer = leaves_fewer _ lim pages (wait_of d.store) now task p.result (others g c) n.tasks n.held c.leave.result c.leave.new.out (omega (arith, few, same_pages)) c.leave.ensures.leaves less in
     let now_left : tasks_left lim n.store.geometry.pages now n.tasks ≡ tasks_left lim pages now n.tasks = ap (λ (k : ℕ). tasks_left lim k now n.tasks) same_pages in
     let was_left : tasks_left lim pages (wait_of d.store) d.tasks ≡ tasks_left lim pages (wait_of d.store) (task ∷ others g c) = ap (tasks_left lim pages (wait_of d.store)) (was g c) in
     let fewer_left : steps_left n < steps_left d = omega (arith, fewer, now_left, was_left, blocks, same.scanned) in
@@ -129,7 +134,9 @@ returns-clause-goes g c =
       scanned = subst (λ (x : DeviceState). unscanned x ≡ 0) c.self.view_is none;
       sound = subst IsSound c.self.view_is (stands.ready (is_ready g c)).sound;
       advances = subst (λ (x : DeviceState). Advances (limits_of x.shape) x.store p.new.store x.held c.leave.new.held.items task p.result c.leave.new.out) c.self.view_is (advances g c);
-      leaves = c.leave.ensures.leaves;
+      leaves = subst (λ (x : DeviceState). Leaves p.result (segment_told x.shape x.regions task p.result) (others g c) c.leave.new.tasks.items c.leave.new.held.items c.leave.result c.leave.new.out) c.self.view_is
+          (subst (λ (b : List ℕ). Leaves p.result b (others g c) c.leave.new.tasks.items c.leave.new.held.items c.leave.result c.leave.new.out) (c.take_progress-hint.ensures.segment d.shape) c.leave.ensures.leaves);
+      regions = subst (λ (x : DeviceState). c.take_progress-hint.new.machines.items ≡ regions_after x.shape x.regions task p.result) c.self.view_is (c.take_progress-hint.ensures.regions d.shape);
       same = subst (λ (x : DeviceState). IsSame x.store p.new.store) c.self.view_is p.ensures.same;
       counts = c.after-counts.ensures ∙ ap (λ (x : DeviceState). counted x.counts p.result) c.self.view_is;
       calls = subst (λ (x : DeviceState). CountsStep x.store p.new.store task p.result) c.self.view_is p.ensures.calls;
@@ -137,3 +144,19 @@ returns-clause-goes g c =
   where
     apart : Scanning ≡ Ready → ⊥
     apart same = cc
+
+pub take_progress-hint-requires : goal.take_progress-hint-requires
+take_progress-hint-requires g c =
+    let s = c.self.inside in
+    let lim = limits_of s.shape in
+    let task = c.in-Some.task in
+    let p = c.advance-progress in
+    let first : s.tasks.items ≡ task ∷ drop 1 s.tasks.items = first_of s.tasks.items task (search rules) in
+    let ok = (subst (IsQueue s.luns lim s.held.items) first c.self.invariant.queue).0 in
+    let advances = subst (λ (l : Limits). Advances l s.store p.new.store s.held.items p.new.held.items task p.result p.new.out) c.limits_of-limits.ensures p.ensures.advances in (
+      s.shape,
+      s.luns,
+      record { limits = c.self.invariant.limits; shapes = c.self.invariant.shapes },
+      record { lun = ok.accepted.lun; served = ok.accepted.served },
+      progress_within s.shape s.luns lim s.store p.new.store s.held.items p.new.held.items task p.result p.new.out c.self.invariant.luns_served c.self.invariant.units_served advances,
+    )

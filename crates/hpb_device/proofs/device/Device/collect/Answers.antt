@@ -1,4 +1,4 @@
-use Rattle.std.proofs.Common.{◌≡◌, ◌*◌, [], refl, sym, ap, subst, ◌∙◌}
+use Rattle.std.proofs.Common.{◌≡◌, ◌*◌, [], arith, refl, sym, ap, subst, ◌∙◌}
 use Rattle.flash_pages.specs.declared.chip.Geometry.{Geometry}
 use Rattle.collector_laws.specs.Changes.{Changes}
 use Rattle.flash_store.specs.declared.answers.Moved.{Moved}
@@ -8,20 +8,28 @@ use Rattle.flash_store.specs.Collecting.{as_collected}
 use Rattle.flash_store.specs.Store.{IsCollected, IsStanding}
 use Rattle.hpb_device.specs.Advance.{IsSameStore}
 use Rattle.hpb_device.specs.Calls.{uncollected_in}
+use Rattle.hpb_device.specs.Counted.{CountsStand}
 use Rattle.hpb_device.specs.Entries.{EntriesStand}
 use Rattle.hpb_device.specs.Left.{KeepsNoWrite, steps_left}
 use Rattle.hpb_device.specs.Listed.{ListingStands}
 use Rattle.hpb_device.specs.Standing.{DeviceStands, DeviceStandsForeign}
 use Rattle.hpb_device.specs.State.{DeviceState}
 use Rattle.hpb_device.proofs.Collecting.{IsCollecting, IsMoved, collect_left, collected_over, idle_leaves_none, moved_entries, moved_listings, moved_of_collect, moved_stands, no_foreign, unmoved_stands, whole_moved}
+use Rattle.flat_unit.specs.declared.event.Event.TheVariants.{Failed as CallFailed}
+use Rattle.flat_unit.specs.History.{◌▹◌}
+use Rattle.hpb_device.specs.Regions.{HintsStand}
+use Rattle.hpb_device.proofs.Hinting.{hints_along, hints_failed, hints_moved}
+use Rattle.hpb_device.proofs.Machines.{count_of}
+use Rattle.hpb_device.proofs.StepStands.{sizes_same}
+use Rattle.hpb_device.proofs.CountingCalls.{collect_counts, unmoved_counts}
 use Rattle.hpb_device.proofs.Unready.{sound_along}
 use Rattle.hpb_device.proofs.device.Device.collect.Goals as goal
 
 pub invariant_of-self-in-Ok-Erased : goal.invariant_of-self-in-Ok-Erased
 invariant_of-self-in-Ok-Erased g c =
     let s = c.self.inside in
-    let d : DeviceState = record { store = s.store; shape = s.shape; tasks = s.tasks.items; held = s.held.items; counts = s.counts } in
-    let n : DeviceState = record { store = c.collect_step.new.self; shape = s.shape; tasks = s.tasks.items; held = s.held.items; counts = c.after_moved-self-inside-in-Ok-Erased.result } in
+    let d : DeviceState = record { store = s.store; shape = s.shape; regions = s.regions.items; tasks = s.tasks.items; held = s.held.items; counts = s.counts } in
+    let n : DeviceState = record { store = c.collect_step.new.self; shape = s.shape; regions = s.regions.items; tasks = s.tasks.items; held = s.held.items; counts = c.after_moved-self-inside-in-Ok-Erased.result } in
     let ready : d.store.phase ≡ Ready = sym c.phase.ensures.phase ∙ c.in-Ready.is in
     let is : IsCollecting d n = record { ready = ready; standing = c.phase.ensures.stands; same = c.collect_step.ensures.same; shape = refl; tasks = refl; held = refl } in
     let at = c.self.invariant in
@@ -33,6 +41,7 @@ invariant_of-self-in-Ok-Erased g c =
       units_served = same.units ∙ at.units_served;
       served = rw (same.geometry) (at.served);
       whole = whole ∙ (at.whole ∙ ap (λ (geometry : Geometry). geometry.blocks * geometry.pages) (sym same.geometry));
+      shapes = at.shapes;
       queue = at.queue;
       burst = at.burst;
       unbegun = λ other. absurd (other (same.phase ∙ ready));
@@ -41,8 +50,8 @@ invariant_of-self-in-Ok-Erased g c =
 pub returns-in-Ok-Idle-clause-foreign : goal.returns-in-Ok-Idle-clause-foreign
 returns-in-Ok-Idle-clause-foreign g c = λ chip first e at.
     let s = c.self.inside in
-    let d : DeviceState = record { store = s.store; shape = s.shape; tasks = s.tasks.items; held = s.held.items; counts = s.counts } in
-    let n : DeviceState = record { store = c.collect_step.new.self; shape = s.shape; tasks = s.tasks.items; held = s.held.items; counts = s.counts } in
+    let d : DeviceState = record { store = s.store; shape = s.shape; regions = s.regions.items; tasks = s.tasks.items; held = s.held.items; counts = s.counts } in
+    let n : DeviceState = record { store = c.collect_step.new.self; shape = s.shape; regions = s.regions.items; tasks = s.tasks.items; held = s.held.items; counts = s.counts } in
     let ready : d.store.phase ≡ Ready = sym c.phase.ensures.phase ∙ c.in-Ready.is in
     let is : IsCollecting d n = record { ready = ready; standing = c.phase.ensures.stands; same = c.collect_step.ensures.same; shape = refl; tasks = refl; held = refl } in
     no_foreign d n is chip first e _ (subst (λ (x : DeviceState). DeviceStandsForeign x chip first e) (sym c.self.view_is) at)
@@ -50,8 +59,8 @@ returns-in-Ok-Idle-clause-foreign g c = λ chip first e at.
 pub returns-in-Ok-Idle-clause-left : goal.returns-in-Ok-Idle-clause-left
 returns-in-Ok-Idle-clause-left g c = λ none.
     let s = c.self.inside in
-    let d : DeviceState = record { store = s.store; shape = s.shape; tasks = s.tasks.items; held = s.held.items; counts = s.counts } in
-    let n : DeviceState = record { store = c.collect_step.new.self; shape = s.shape; tasks = s.tasks.items; held = s.held.items; counts = s.counts } in
+    let d : DeviceState = record { store = s.store; shape = s.shape; regions = s.regions.items; tasks = s.tasks.items; held = s.held.items; counts = s.counts } in
+    let n : DeviceState = record { store = c.collect_step.new.self; shape = s.shape; regions = s.regions.items; tasks = s.tasks.items; held = s.held.items; counts = s.counts } in
     let ready : d.store.phase ≡ Ready = sym c.phase.ensures.phase ∙ c.in-Ready.is in
     let is : IsCollecting d n = record { ready = ready; standing = c.phase.ensures.stands; same = c.collect_step.ensures.same; shape = refl; tasks = refl; held = refl } in
     subst (λ (x : DeviceState). steps_left n ≡ steps_left x) c.self.view_is (collect_left d n is (subst (λ (x : DeviceState). KeepsNoWrite x.tasks) (sym c.self.view_is) none))
@@ -59,8 +68,8 @@ returns-in-Ok-Idle-clause-left g c = λ none.
 pub returns-in-Ok-Read-clause-foreign : goal.returns-in-Ok-Read-clause-foreign
 returns-in-Ok-Read-clause-foreign g c = λ chip first e at.
     let s = c.self.inside in
-    let d : DeviceState = record { store = s.store; shape = s.shape; tasks = s.tasks.items; held = s.held.items; counts = s.counts } in
-    let n : DeviceState = record { store = c.collect_step.new.self; shape = s.shape; tasks = s.tasks.items; held = s.held.items; counts = s.counts } in
+    let d : DeviceState = record { store = s.store; shape = s.shape; regions = s.regions.items; tasks = s.tasks.items; held = s.held.items; counts = s.counts } in
+    let n : DeviceState = record { store = c.collect_step.new.self; shape = s.shape; regions = s.regions.items; tasks = s.tasks.items; held = s.held.items; counts = s.counts } in
     let ready : d.store.phase ≡ Ready = sym c.phase.ensures.phase ∙ c.in-Ready.is in
     let is : IsCollecting d n = record { ready = ready; standing = c.phase.ensures.stands; same = c.collect_step.ensures.same; shape = refl; tasks = refl; held = refl } in
     no_foreign d n is chip first e _ (subst (λ (x : DeviceState). DeviceStandsForeign x chip first e) (sym c.self.view_is) at)
@@ -68,8 +77,8 @@ returns-in-Ok-Read-clause-foreign g c = λ chip first e at.
 pub returns-in-Ok-Read-clause-left : goal.returns-in-Ok-Read-clause-left
 returns-in-Ok-Read-clause-left g c = λ none.
     let s = c.self.inside in
-    let d : DeviceState = record { store = s.store; shape = s.shape; tasks = s.tasks.items; held = s.held.items; counts = s.counts } in
-    let n : DeviceState = record { store = c.collect_step.new.self; shape = s.shape; tasks = s.tasks.items; held = s.held.items; counts = s.counts } in
+    let d : DeviceState = record { store = s.store; shape = s.shape; regions = s.regions.items; tasks = s.tasks.items; held = s.held.items; counts = s.counts } in
+    let n : DeviceState = record { store = c.collect_step.new.self; shape = s.shape; regions = s.regions.items; tasks = s.tasks.items; held = s.held.items; counts = s.counts } in
     let ready : d.store.phase ≡ Ready = sym c.phase.ensures.phase ∙ c.in-Ready.is in
     let is : IsCollecting d n = record { ready = ready; standing = c.phase.ensures.stands; same = c.collect_step.ensures.same; shape = refl; tasks = refl; held = refl } in
     subst (λ (x : DeviceState). steps_left n ≡ steps_left x) c.self.view_is (collect_left d n is (subst (λ (x : DeviceState). KeepsNoWrite x.tasks) (sym c.self.view_is) none))
@@ -77,8 +86,8 @@ returns-in-Ok-Read-clause-left g c = λ none.
 pub returns-in-Ok-Page-clause-foreign : goal.returns-in-Ok-Page-clause-foreign
 returns-in-Ok-Page-clause-foreign g c = λ chip first e at.
     let s = c.self.inside in
-    let d : DeviceState = record { store = s.store; shape = s.shape; tasks = s.tasks.items; held = s.held.items; counts = s.counts } in
-    let n : DeviceState = record { store = c.collect_step.new.self; shape = s.shape; tasks = s.tasks.items; held = s.held.items; counts = c.after_moved-self-inside.result } in
+    let d : DeviceState = record { store = s.store; shape = s.shape; regions = s.regions.items; tasks = s.tasks.items; held = s.held.items; counts = s.counts } in
+    let n : DeviceState = record { store = c.collect_step.new.self; shape = s.shape; regions = c.take_moved.new.machines.items; tasks = s.tasks.items; held = s.held.items; counts = c.after_moved-self-inside.result } in
     let ready : d.store.phase ≡ Ready = sym c.phase.ensures.phase ∙ c.in-Ready.is in
     let is : IsCollecting d n = record { ready = ready; standing = c.phase.ensures.stands; same = c.collect_step.ensures.same; shape = refl; tasks = refl; held = refl } in
     no_foreign d n is chip first e _ (subst (λ (x : DeviceState). DeviceStandsForeign x chip first e) (sym c.self.view_is) at)
@@ -86,8 +95,8 @@ returns-in-Ok-Page-clause-foreign g c = λ chip first e at.
 pub returns-in-Ok-Page-clause-left : goal.returns-in-Ok-Page-clause-left
 returns-in-Ok-Page-clause-left g c = λ none.
     let s = c.self.inside in
-    let d : DeviceState = record { store = s.store; shape = s.shape; tasks = s.tasks.items; held = s.held.items; counts = s.counts } in
-    let n : DeviceState = record { store = c.collect_step.new.self; shape = s.shape; tasks = s.tasks.items; held = s.held.items; counts = c.after_moved-self-inside.result } in
+    let d : DeviceState = record { store = s.store; shape = s.shape; regions = s.regions.items; tasks = s.tasks.items; held = s.held.items; counts = s.counts } in
+    let n : DeviceState = record { store = c.collect_step.new.self; shape = s.shape; regions = c.take_moved.new.machines.items; tasks = s.tasks.items; held = s.held.items; counts = c.after_moved-self-inside.result } in
     let ready : d.store.phase ≡ Ready = sym c.phase.ensures.phase ∙ c.in-Ready.is in
     let is : IsCollecting d n = record { ready = ready; standing = c.phase.ensures.stands; same = c.collect_step.ensures.same; shape = refl; tasks = refl; held = refl } in
     subst (λ (x : DeviceState). steps_left n ≡ steps_left x) c.self.view_is (collect_left d n is (subst (λ (x : DeviceState). KeepsNoWrite x.tasks) (sym c.self.view_is) none))
@@ -95,8 +104,8 @@ returns-in-Ok-Page-clause-left g c = λ none.
 pub returns-in-Ok-Erased-clause-foreign : goal.returns-in-Ok-Erased-clause-foreign
 returns-in-Ok-Erased-clause-foreign g c = λ chip first e at.
     let s = c.self.inside in
-    let d : DeviceState = record { store = s.store; shape = s.shape; tasks = s.tasks.items; held = s.held.items; counts = s.counts } in
-    let n : DeviceState = record { store = c.collect_step.new.self; shape = s.shape; tasks = s.tasks.items; held = s.held.items; counts = c.after_moved-self-inside-in-Ok-Erased.result } in
+    let d : DeviceState = record { store = s.store; shape = s.shape; regions = s.regions.items; tasks = s.tasks.items; held = s.held.items; counts = s.counts } in
+    let n : DeviceState = record { store = c.collect_step.new.self; shape = s.shape; regions = s.regions.items; tasks = s.tasks.items; held = s.held.items; counts = c.after_moved-self-inside-in-Ok-Erased.result } in
     let ready : d.store.phase ≡ Ready = sym c.phase.ensures.phase ∙ c.in-Ready.is in
     let is : IsCollecting d n = record { ready = ready; standing = c.phase.ensures.stands; same = c.collect_step.ensures.same; shape = refl; tasks = refl; held = refl } in
     no_foreign d n is chip first e _ (subst (λ (x : DeviceState). DeviceStandsForeign x chip first e) (sym c.self.view_is) at)
@@ -104,8 +113,8 @@ returns-in-Ok-Erased-clause-foreign g c = λ chip first e at.
 pub returns-in-Ok-Erased-clause-left : goal.returns-in-Ok-Erased-clause-left
 returns-in-Ok-Erased-clause-left g c = λ none.
     let s = c.self.inside in
-    let d : DeviceState = record { store = s.store; shape = s.shape; tasks = s.tasks.items; held = s.held.items; counts = s.counts } in
-    let n : DeviceState = record { store = c.collect_step.new.self; shape = s.shape; tasks = s.tasks.items; held = s.held.items; counts = c.after_moved-self-inside-in-Ok-Erased.result } in
+    let d : DeviceState = record { store = s.store; shape = s.shape; regions = s.regions.items; tasks = s.tasks.items; held = s.held.items; counts = s.counts } in
+    let n : DeviceState = record { store = c.collect_step.new.self; shape = s.shape; regions = s.regions.items; tasks = s.tasks.items; held = s.held.items; counts = c.after_moved-self-inside-in-Ok-Erased.result } in
     let ready : d.store.phase ≡ Ready = sym c.phase.ensures.phase ∙ c.in-Ready.is in
     let is : IsCollecting d n = record { ready = ready; standing = c.phase.ensures.stands; same = c.collect_step.ensures.same; shape = refl; tasks = refl; held = refl } in
     subst (λ (x : DeviceState). steps_left n ≡ steps_left x) c.self.view_is (collect_left d n is (subst (λ (x : DeviceState). KeepsNoWrite x.tasks) (sym c.self.view_is) none))
@@ -123,8 +132,8 @@ returns-in-Err-clause-none_left g c = λ is_ready zero.
 pub returns-in-Ok-Page-clause-stands : goal.returns-in-Ok-Page-clause-stands
 returns-in-Ok-Page-clause-stands g c = λ first e at.
     let s = c.self.inside in
-    let d : DeviceState = record { store = s.store; shape = s.shape; tasks = s.tasks.items; held = s.held.items; counts = s.counts } in
-    let n : DeviceState = record { store = c.collect_step.new.self; shape = s.shape; tasks = s.tasks.items; held = s.held.items; counts = c.after_moved-self-inside.result } in
+    let d : DeviceState = record { store = s.store; shape = s.shape; regions = s.regions.items; tasks = s.tasks.items; held = s.held.items; counts = s.counts } in
+    let n : DeviceState = record { store = c.collect_step.new.self; shape = s.shape; regions = c.take_moved.new.machines.items; tasks = s.tasks.items; held = s.held.items; counts = c.after_moved-self-inside.result } in
     let ready : d.store.phase ≡ Ready = sym c.phase.ensures.phase ∙ c.in-Ready.is in
     let is : IsCollecting d n = record { ready = ready; standing = c.phase.ensures.stands; same = c.collect_step.ensures.same; shape = refl; tasks = refl; held = refl } in
     let moved : IsMoved d n (MovedPage c.in-Ok-Page.lun c.in-Ok-Page.lba) = moved_of_collect d n is (MovedPage c.in-Ok-Page.lun c.in-Ok-Page.lba) (subst (λ (m : Moved). IsCollected d.store m n.store) c.in-Ok-Page.field-0-is (c.in-Ok-Page.ensures.moved ready))
@@ -134,8 +143,8 @@ returns-in-Ok-Page-clause-stands g c = λ first e at.
 pub returns-in-Ok-Page-clause-entries : goal.returns-in-Ok-Page-clause-entries
 returns-in-Ok-Page-clause-entries g c = λ e stand.
     let s = c.self.inside in
-    let d : DeviceState = record { store = s.store; shape = s.shape; tasks = s.tasks.items; held = s.held.items; counts = s.counts } in
-    let n : DeviceState = record { store = c.collect_step.new.self; shape = s.shape; tasks = s.tasks.items; held = s.held.items; counts = c.after_moved-self-inside.result } in
+    let d : DeviceState = record { store = s.store; shape = s.shape; regions = s.regions.items; tasks = s.tasks.items; held = s.held.items; counts = s.counts } in
+    let n : DeviceState = record { store = c.collect_step.new.self; shape = s.shape; regions = c.take_moved.new.machines.items; tasks = s.tasks.items; held = s.held.items; counts = c.after_moved-self-inside.result } in
     let ready : d.store.phase ≡ Ready = sym c.phase.ensures.phase ∙ c.in-Ready.is in
     let is : IsCollecting d n = record { ready = ready; standing = c.phase.ensures.stands; same = c.collect_step.ensures.same; shape = refl; tasks = refl; held = refl } in
     let moved : IsMoved d n (MovedPage c.in-Ok-Page.lun c.in-Ok-Page.lba) = moved_of_collect d n is (MovedPage c.in-Ok-Page.lun c.in-Ok-Page.lba) (subst (λ (m : Moved). IsCollected d.store m n.store) c.in-Ok-Page.field-0-is (c.in-Ok-Page.ensures.moved ready))
@@ -145,8 +154,8 @@ returns-in-Ok-Page-clause-entries g c = λ e stand.
 pub returns-in-Ok-Page-clause-listings : goal.returns-in-Ok-Page-clause-listings
 returns-in-Ok-Page-clause-listings g c = λ had pages e stand.
     let s = c.self.inside in
-    let d : DeviceState = record { store = s.store; shape = s.shape; tasks = s.tasks.items; held = s.held.items; counts = s.counts } in
-    let n : DeviceState = record { store = c.collect_step.new.self; shape = s.shape; tasks = s.tasks.items; held = s.held.items; counts = c.after_moved-self-inside.result } in
+    let d : DeviceState = record { store = s.store; shape = s.shape; regions = s.regions.items; tasks = s.tasks.items; held = s.held.items; counts = s.counts } in
+    let n : DeviceState = record { store = c.collect_step.new.self; shape = s.shape; regions = c.take_moved.new.machines.items; tasks = s.tasks.items; held = s.held.items; counts = c.after_moved-self-inside.result } in
     let ready : d.store.phase ≡ Ready = sym c.phase.ensures.phase ∙ c.in-Ready.is in
     let is : IsCollecting d n = record { ready = ready; standing = c.phase.ensures.stands; same = c.collect_step.ensures.same; shape = refl; tasks = refl; held = refl } in
     let moved : IsMoved d n (MovedPage c.in-Ok-Page.lun c.in-Ok-Page.lba) = moved_of_collect d n is (MovedPage c.in-Ok-Page.lun c.in-Ok-Page.lba) (subst (λ (m : Moved). IsCollected d.store m n.store) c.in-Ok-Page.field-0-is (c.in-Ok-Page.ensures.moved ready))
@@ -156,8 +165,8 @@ returns-in-Ok-Page-clause-listings g c = λ had pages e stand.
 pub returns-in-Ok-Erased-clause-stands : goal.returns-in-Ok-Erased-clause-stands
 returns-in-Ok-Erased-clause-stands g c = λ first e at.
     let s = c.self.inside in
-    let d : DeviceState = record { store = s.store; shape = s.shape; tasks = s.tasks.items; held = s.held.items; counts = s.counts } in
-    let n : DeviceState = record { store = c.collect_step.new.self; shape = s.shape; tasks = s.tasks.items; held = s.held.items; counts = c.after_moved-self-inside-in-Ok-Erased.result } in
+    let d : DeviceState = record { store = s.store; shape = s.shape; regions = s.regions.items; tasks = s.tasks.items; held = s.held.items; counts = s.counts } in
+    let n : DeviceState = record { store = c.collect_step.new.self; shape = s.shape; regions = s.regions.items; tasks = s.tasks.items; held = s.held.items; counts = c.after_moved-self-inside-in-Ok-Erased.result } in
     let ready : d.store.phase ≡ Ready = sym c.phase.ensures.phase ∙ c.in-Ready.is in
     let is : IsCollecting d n = record { ready = ready; standing = c.phase.ensures.stands; same = c.collect_step.ensures.same; shape = refl; tasks = refl; held = refl } in
     let moved : IsMoved d n (ErasedBlock c.in-Ok-Erased.block) = moved_of_collect d n is (ErasedBlock c.in-Ok-Erased.block) (subst (λ (m : Moved). IsCollected d.store m n.store) c.in-Ok-Erased.field-0-is (c.in-Ok-Erased.ensures.moved ready))
@@ -167,8 +176,8 @@ returns-in-Ok-Erased-clause-stands g c = λ first e at.
 pub returns-in-Ok-Erased-clause-entries : goal.returns-in-Ok-Erased-clause-entries
 returns-in-Ok-Erased-clause-entries g c = λ e stand.
     let s = c.self.inside in
-    let d : DeviceState = record { store = s.store; shape = s.shape; tasks = s.tasks.items; held = s.held.items; counts = s.counts } in
-    let n : DeviceState = record { store = c.collect_step.new.self; shape = s.shape; tasks = s.tasks.items; held = s.held.items; counts = c.after_moved-self-inside-in-Ok-Erased.result } in
+    let d : DeviceState = record { store = s.store; shape = s.shape; regions = s.regions.items; tasks = s.tasks.items; held = s.held.items; counts = s.counts } in
+    let n : DeviceState = record { store = c.collect_step.new.self; shape = s.shape; regions = s.regions.items; tasks = s.tasks.items; held = s.held.items; counts = c.after_moved-self-inside-in-Ok-Erased.result } in
     let ready : d.store.phase ≡ Ready = sym c.phase.ensures.phase ∙ c.in-Ready.is in
     let is : IsCollecting d n = record { ready = ready; standing = c.phase.ensures.stands; same = c.collect_step.ensures.same; shape = refl; tasks = refl; held = refl } in
     let moved : IsMoved d n (ErasedBlock c.in-Ok-Erased.block) = moved_of_collect d n is (ErasedBlock c.in-Ok-Erased.block) (subst (λ (m : Moved). IsCollected d.store m n.store) c.in-Ok-Erased.field-0-is (c.in-Ok-Erased.ensures.moved ready))
@@ -178,8 +187,8 @@ returns-in-Ok-Erased-clause-entries g c = λ e stand.
 pub returns-in-Ok-Erased-clause-listings : goal.returns-in-Ok-Erased-clause-listings
 returns-in-Ok-Erased-clause-listings g c = λ had pages e stand.
     let s = c.self.inside in
-    let d : DeviceState = record { store = s.store; shape = s.shape; tasks = s.tasks.items; held = s.held.items; counts = s.counts } in
-    let n : DeviceState = record { store = c.collect_step.new.self; shape = s.shape; tasks = s.tasks.items; held = s.held.items; counts = c.after_moved-self-inside-in-Ok-Erased.result } in
+    let d : DeviceState = record { store = s.store; shape = s.shape; regions = s.regions.items; tasks = s.tasks.items; held = s.held.items; counts = s.counts } in
+    let n : DeviceState = record { store = c.collect_step.new.self; shape = s.shape; regions = s.regions.items; tasks = s.tasks.items; held = s.held.items; counts = c.after_moved-self-inside-in-Ok-Erased.result } in
     let ready : d.store.phase ≡ Ready = sym c.phase.ensures.phase ∙ c.in-Ready.is in
     let is : IsCollecting d n = record { ready = ready; standing = c.phase.ensures.stands; same = c.collect_step.ensures.same; shape = refl; tasks = refl; held = refl } in
     let moved : IsMoved d n (ErasedBlock c.in-Ok-Erased.block) = moved_of_collect d n is (ErasedBlock c.in-Ok-Erased.block) (subst (λ (m : Moved). IsCollected d.store m n.store) c.in-Ok-Erased.field-0-is (c.in-Ok-Erased.ensures.moved ready))
@@ -189,8 +198,8 @@ returns-in-Ok-Erased-clause-listings g c = λ had pages e stand.
 pub returns-in-Err-clause-foreign : goal.returns-in-Err-clause-foreign
 returns-in-Err-clause-foreign g c = λ chip first e at.
     let s = c.self.inside in
-    let d : DeviceState = record { store = s.store; shape = s.shape; tasks = s.tasks.items; held = s.held.items; counts = s.counts } in
-    let n : DeviceState = record { store = c.collect_step.new.self; shape = s.shape; tasks = s.tasks.items; held = s.held.items; counts = s.counts } in
+    let d : DeviceState = record { store = s.store; shape = s.shape; regions = s.regions.items; tasks = s.tasks.items; held = s.held.items; counts = s.counts } in
+    let n : DeviceState = record { store = c.collect_step.new.self; shape = s.shape; regions = s.regions.items; tasks = s.tasks.items; held = s.held.items; counts = s.counts } in
     let ready : d.store.phase ≡ Ready = sym c.phase.ensures.phase ∙ c.in-Ready.is in
     let is : IsCollecting d n = record { ready = ready; standing = c.phase.ensures.stands; same = c.collect_step.ensures.same; shape = refl; tasks = refl; held = refl } in
     no_foreign d n is chip first e _ (subst (λ (x : DeviceState). DeviceStandsForeign x chip first e) (sym c.self.view_is) at)
@@ -198,8 +207,8 @@ returns-in-Err-clause-foreign g c = λ chip first e at.
 pub returns-in-Err-clause-left : goal.returns-in-Err-clause-left
 returns-in-Err-clause-left g c = λ none.
     let s = c.self.inside in
-    let d : DeviceState = record { store = s.store; shape = s.shape; tasks = s.tasks.items; held = s.held.items; counts = s.counts } in
-    let n : DeviceState = record { store = c.collect_step.new.self; shape = s.shape; tasks = s.tasks.items; held = s.held.items; counts = s.counts } in
+    let d : DeviceState = record { store = s.store; shape = s.shape; regions = s.regions.items; tasks = s.tasks.items; held = s.held.items; counts = s.counts } in
+    let n : DeviceState = record { store = c.collect_step.new.self; shape = s.shape; regions = s.regions.items; tasks = s.tasks.items; held = s.held.items; counts = s.counts } in
     let ready : d.store.phase ≡ Ready = sym c.phase.ensures.phase ∙ c.in-Ready.is in
     let is : IsCollecting d n = record { ready = ready; standing = c.phase.ensures.stands; same = c.collect_step.ensures.same; shape = refl; tasks = refl; held = refl } in
     subst (λ (x : DeviceState). steps_left n ≡ steps_left x) c.self.view_is (collect_left d n is (subst (λ (x : DeviceState). KeepsNoWrite x.tasks) (sym c.self.view_is) none))
@@ -207,8 +216,8 @@ returns-in-Err-clause-left g c = λ none.
 pub returns-in-Err-clause-stands : goal.returns-in-Err-clause-stands
 returns-in-Err-clause-stands g c = λ first e at.
     let s = c.self.inside in
-    let d : DeviceState = record { store = s.store; shape = s.shape; tasks = s.tasks.items; held = s.held.items; counts = s.counts } in
-    let n : DeviceState = record { store = c.collect_step.new.self; shape = s.shape; tasks = s.tasks.items; held = s.held.items; counts = s.counts } in
+    let d : DeviceState = record { store = s.store; shape = s.shape; regions = s.regions.items; tasks = s.tasks.items; held = s.held.items; counts = s.counts } in
+    let n : DeviceState = record { store = c.collect_step.new.self; shape = s.shape; regions = s.regions.items; tasks = s.tasks.items; held = s.held.items; counts = s.counts } in
     let ready : d.store.phase ≡ Ready = sym c.phase.ensures.phase ∙ c.in-Ready.is in
     let is : IsCollecting d n = record { ready = ready; standing = c.phase.ensures.stands; same = c.collect_step.ensures.same; shape = refl; tasks = refl; held = refl } in
     let here : DeviceStands d first e = subst (λ (x : DeviceState). DeviceStands x first e) (sym c.self.view_is) at in
@@ -219,8 +228,8 @@ returns-in-Err-clause-stands g c = λ first e at.
 pub returns-in-Ok-Idle-clause-rests : goal.returns-in-Ok-Idle-clause-rests
 returns-in-Ok-Idle-clause-rests g c = λ idle is_ready.
     let s = c.self.inside in
-    let d : DeviceState = record { store = s.store; shape = s.shape; tasks = s.tasks.items; held = s.held.items; counts = s.counts } in
-    let n : DeviceState = record { store = c.collect_step.new.self; shape = s.shape; tasks = s.tasks.items; held = s.held.items; counts = s.counts } in
+    let d : DeviceState = record { store = s.store; shape = s.shape; regions = s.regions.items; tasks = s.tasks.items; held = s.held.items; counts = s.counts } in
+    let n : DeviceState = record { store = c.collect_step.new.self; shape = s.shape; regions = s.regions.items; tasks = s.tasks.items; held = s.held.items; counts = s.counts } in
     let ready : d.store.phase ≡ Ready = sym c.phase.ensures.phase ∙ c.in-Ready.is in
     subst (λ (x : DeviceState). uncollected_in x ≡ 0) c.self.view_is
     (idle_leaves_none d n (subst (λ (m : Moved). IsCollected d.store m n.store) c.in-Ok-Idle.field-0-is (c.in-Ok-Idle.ensures.moved ready)))
@@ -228,8 +237,8 @@ returns-in-Ok-Idle-clause-rests g c = λ idle is_ready.
 pub returns-in-Ok-Idle-clause-over : goal.returns-in-Ok-Idle-clause-over
 returns-in-Ok-Idle-clause-over g c = λ is_ready given none.
     let s = c.self.inside in
-    let d : DeviceState = record { store = s.store; shape = s.shape; tasks = s.tasks.items; held = s.held.items; counts = s.counts } in
-    let n : DeviceState = record { store = c.collect_step.new.self; shape = s.shape; tasks = s.tasks.items; held = s.held.items; counts = s.counts } in
+    let d : DeviceState = record { store = s.store; shape = s.shape; regions = s.regions.items; tasks = s.tasks.items; held = s.held.items; counts = s.counts } in
+    let n : DeviceState = record { store = c.collect_step.new.self; shape = s.shape; regions = s.regions.items; tasks = s.tasks.items; held = s.held.items; counts = s.counts } in
     let ready : d.store.phase ≡ Ready = sym c.phase.ensures.phase ∙ c.in-Ready.is in
     let is : IsCollecting d n = record { ready = ready; standing = c.phase.ensures.stands; same = c.collect_step.ensures.same; shape = refl; tasks = refl; held = refl } in
     collected_over d n is Idle (subst (λ (m : Moved). IsCollected d.store m n.store) c.in-Ok-Idle.field-0-is (c.in-Ok-Idle.ensures.moved ready)) none
@@ -237,8 +246,8 @@ returns-in-Ok-Idle-clause-over g c = λ is_ready given none.
 pub returns-in-Ok-Read-clause-over : goal.returns-in-Ok-Read-clause-over
 returns-in-Ok-Read-clause-over g c = λ is_ready given none.
     let s = c.self.inside in
-    let d : DeviceState = record { store = s.store; shape = s.shape; tasks = s.tasks.items; held = s.held.items; counts = s.counts } in
-    let n : DeviceState = record { store = c.collect_step.new.self; shape = s.shape; tasks = s.tasks.items; held = s.held.items; counts = s.counts } in
+    let d : DeviceState = record { store = s.store; shape = s.shape; regions = s.regions.items; tasks = s.tasks.items; held = s.held.items; counts = s.counts } in
+    let n : DeviceState = record { store = c.collect_step.new.self; shape = s.shape; regions = s.regions.items; tasks = s.tasks.items; held = s.held.items; counts = s.counts } in
     let ready : d.store.phase ≡ Ready = sym c.phase.ensures.phase ∙ c.in-Ready.is in
     let is : IsCollecting d n = record { ready = ready; standing = c.phase.ensures.stands; same = c.collect_step.ensures.same; shape = refl; tasks = refl; held = refl } in
     collected_over d n is ReadPage (subst (λ (m : Moved). IsCollected d.store m n.store) c.in-Ok-Read.field-0-is (c.in-Ok-Read.ensures.moved ready)) none
@@ -246,8 +255,8 @@ returns-in-Ok-Read-clause-over g c = λ is_ready given none.
 pub returns-in-Ok-Page-clause-over : goal.returns-in-Ok-Page-clause-over
 returns-in-Ok-Page-clause-over g c = λ is_ready given none.
     let s = c.self.inside in
-    let d : DeviceState = record { store = s.store; shape = s.shape; tasks = s.tasks.items; held = s.held.items; counts = s.counts } in
-    let n : DeviceState = record { store = c.collect_step.new.self; shape = s.shape; tasks = s.tasks.items; held = s.held.items; counts = c.after_moved-self-inside.result } in
+    let d : DeviceState = record { store = s.store; shape = s.shape; regions = s.regions.items; tasks = s.tasks.items; held = s.held.items; counts = s.counts } in
+    let n : DeviceState = record { store = c.collect_step.new.self; shape = s.shape; regions = c.take_moved.new.machines.items; tasks = s.tasks.items; held = s.held.items; counts = c.after_moved-self-inside.result } in
     let ready : d.store.phase ≡ Ready = sym c.phase.ensures.phase ∙ c.in-Ready.is in
     let is : IsCollecting d n = record { ready = ready; standing = c.phase.ensures.stands; same = c.collect_step.ensures.same; shape = refl; tasks = refl; held = refl } in
     collected_over d n is (MovedPage c.in-Ok-Page.lun c.in-Ok-Page.lba) (subst (λ (m : Moved). IsCollected d.store m n.store) c.in-Ok-Page.field-0-is (c.in-Ok-Page.ensures.moved ready)) none
@@ -255,8 +264,109 @@ returns-in-Ok-Page-clause-over g c = λ is_ready given none.
 pub returns-in-Ok-Erased-clause-over : goal.returns-in-Ok-Erased-clause-over
 returns-in-Ok-Erased-clause-over g c = λ is_ready given none.
     let s = c.self.inside in
-    let d : DeviceState = record { store = s.store; shape = s.shape; tasks = s.tasks.items; held = s.held.items; counts = s.counts } in
-    let n : DeviceState = record { store = c.collect_step.new.self; shape = s.shape; tasks = s.tasks.items; held = s.held.items; counts = c.after_moved-self-inside-in-Ok-Erased.result } in
+    let d : DeviceState = record { store = s.store; shape = s.shape; regions = s.regions.items; tasks = s.tasks.items; held = s.held.items; counts = s.counts } in
+    let n : DeviceState = record { store = c.collect_step.new.self; shape = s.shape; regions = s.regions.items; tasks = s.tasks.items; held = s.held.items; counts = c.after_moved-self-inside-in-Ok-Erased.result } in
     let ready : d.store.phase ≡ Ready = sym c.phase.ensures.phase ∙ c.in-Ready.is in
     let is : IsCollecting d n = record { ready = ready; standing = c.phase.ensures.stands; same = c.collect_step.ensures.same; shape = refl; tasks = refl; held = refl } in
     collected_over d n is (ErasedBlock c.in-Ok-Erased.block) (subst (λ (m : Moved). IsCollected d.store m n.store) c.in-Ok-Erased.field-0-is (c.in-Ok-Erased.ensures.moved ready)) none
+
+pub returns-in-Ok-Idle-clause-hints : goal.returns-in-Ok-Idle-clause-hints
+returns-in-Ok-Idle-clause-hints g c = λ e stand.
+    let s = c.self.inside in
+    let d : DeviceState = record { store = s.store; shape = s.shape; regions = s.regions.items; tasks = s.tasks.items; held = s.held.items; counts = s.counts } in
+    let n : DeviceState = record { store = c.collect_step.new.self; shape = s.shape; regions = s.regions.items; tasks = s.tasks.items; held = s.held.items; counts = s.counts } in
+    let ready : d.store.phase ≡ Ready = sym c.phase.ensures.phase ∙ c.in-Ready.is in
+    let is = c.collect_step.ensures.same in
+    let sizes = sizes_same d n (record { geometry = is.geometry; luns = is.luns; units = is.units }) refl in
+    let here : HintsStand d e = subst (λ (x : DeviceState). HintsStand x e) (sym c.self.view_is) stand in
+    rw (c.idle-in-Ok-Idle.ensures) (hints_along d n e refl refl sizes here)
+
+pub returns-in-Ok-Read-clause-hints : goal.returns-in-Ok-Read-clause-hints
+returns-in-Ok-Read-clause-hints g c = λ e stand.
+    let s = c.self.inside in
+    let d : DeviceState = record { store = s.store; shape = s.shape; regions = s.regions.items; tasks = s.tasks.items; held = s.held.items; counts = s.counts } in
+    let n : DeviceState = record { store = c.collect_step.new.self; shape = s.shape; regions = s.regions.items; tasks = s.tasks.items; held = s.held.items; counts = s.counts } in
+    let ready : d.store.phase ≡ Ready = sym c.phase.ensures.phase ∙ c.in-Ready.is in
+    let is = c.collect_step.ensures.same in
+    let sizes = sizes_same d n (record { geometry = is.geometry; luns = is.luns; units = is.units }) refl in
+    let here : HintsStand d e = subst (λ (x : DeviceState). HintsStand x e) (sym c.self.view_is) stand in
+    rw (c.new.ensures) (hints_along d n e refl refl sizes here)
+
+pub returns-in-Ok-Erased-clause-hints : goal.returns-in-Ok-Erased-clause-hints
+returns-in-Ok-Erased-clause-hints g c = λ e stand.
+    let s = c.self.inside in
+    let d : DeviceState = record { store = s.store; shape = s.shape; regions = s.regions.items; tasks = s.tasks.items; held = s.held.items; counts = s.counts } in
+    let n : DeviceState = record { store = c.collect_step.new.self; shape = s.shape; regions = s.regions.items; tasks = s.tasks.items; held = s.held.items; counts = c.after_moved-self-inside-in-Ok-Erased.result } in
+    let ready : d.store.phase ≡ Ready = sym c.phase.ensures.phase ∙ c.in-Ready.is in
+    let is = c.collect_step.ensures.same in
+    let sizes = sizes_same d n (record { geometry = is.geometry; luns = is.luns; units = is.units }) refl in
+    let here : HintsStand d e = subst (λ (x : DeviceState). HintsStand x e) (sym c.self.view_is) stand in
+    rw (c.new-in-Ok-Erased.ensures) (hints_along d n e refl refl sizes here)
+
+pub returns-in-Err-clause-hints : goal.returns-in-Err-clause-hints
+returns-in-Err-clause-hints g c = λ e stand.
+    let s = c.self.inside in
+    let d : DeviceState = record { store = s.store; shape = s.shape; regions = s.regions.items; tasks = s.tasks.items; held = s.held.items; counts = s.counts } in
+    let n : DeviceState = record { store = c.collect_step.new.self; shape = s.shape; regions = s.regions.items; tasks = s.tasks.items; held = s.held.items; counts = s.counts } in
+    let ready : d.store.phase ≡ Ready = sym c.phase.ensures.phase ∙ c.in-Ready.is in
+    let is = c.collect_step.ensures.same in
+    let sizes = sizes_same d n (record { geometry = is.geometry; luns = is.luns; units = is.units }) refl in
+    let here : HintsStand d e = subst (λ (x : DeviceState). HintsStand x e) (sym c.self.view_is) stand in
+    rw (c.new-in-Err.ensures) (hints_along d n (e ▹ CallFailed c.in-Err.op) refl refl sizes (hints_failed d e c.in-Err.op here))
+
+pub returns-in-Ok-Page-clause-hints : goal.returns-in-Ok-Page-clause-hints
+returns-in-Ok-Page-clause-hints g c = λ e stand.
+    let s = c.self.inside in
+    let d : DeviceState = record { store = s.store; shape = s.shape; regions = s.regions.items; tasks = s.tasks.items; held = s.held.items; counts = s.counts } in
+    let n : DeviceState = record { store = c.collect_step.new.self; shape = s.shape; regions = c.take_moved.new.machines.items; tasks = s.tasks.items; held = s.held.items; counts = c.after_moved-self-inside.result } in
+    let ready : d.store.phase ≡ Ready = sym c.phase.ensures.phase ∙ c.in-Ready.is in
+    let is = c.collect_step.ensures.same in
+    let sizes = sizes_same d n (record { geometry = is.geometry; luns = is.luns; units = is.units }) refl in
+    let here : HintsStand d e = subst (λ (x : DeviceState). HintsStand x e) (sym c.self.view_is) stand in
+    let changes = subst (λ (m : Moved). Changes d.store.geometry d.store.luns d.store.units d.store.pages (as_collected m) n.store.pages) c.in-Ok-Page.field-0-is (c.in-Ok-Page.ensures.changes ready) in
+    let count = count_of s.shape s.luns s.regions.items c.self.invariant.shapes in
+    rw (c.new-in-Ok-Page.ensures) (hints_moved d n c.in-Ok-Page.lun c.in-Ok-Page.lba e (omega (arith, changes.place.lun, count, c.self.invariant.luns_served)) (c.take_moved.ensures.regions s.shape) refl sizes here)
+
+pub take_moved-requires : goal.take_moved-requires
+take_moved-requires g c =
+    let s = c.self.inside in
+    let ready : s.store.phase ≡ Ready = sym c.phase.ensures.phase ∙ c.in-Ready.is in
+    let changes = subst (λ (m : Moved). Changes s.store.geometry s.store.luns s.store.units s.store.pages (as_collected m) c.collect_step.new.self.pages) c.in-Ok-Page.field-0-is (c.in-Ok-Page.ensures.changes ready) in (
+      s.shape,
+      s.luns,
+      record { limits = c.self.invariant.limits; shapes = c.self.invariant.shapes },
+      (omega (arith, changes.place.lun, c.self.invariant.luns_served), omega (arith, changes.place.lba, c.self.invariant.units_served)),
+    )
+
+pub returns-in-Ok-Page-clause-counted : goal.returns-in-Ok-Page-clause-counted
+returns-in-Ok-Page-clause-counted g c = λ e stand.
+    let s = c.self.inside in
+    let d : DeviceState = record { store = s.store; shape = s.shape; regions = s.regions.items; tasks = s.tasks.items; held = s.held.items; counts = s.counts } in
+    let n : DeviceState = record { store = c.collect_step.new.self; shape = s.shape; regions = c.take_moved.new.machines.items; tasks = s.tasks.items; held = s.held.items; counts = c.after_moved-self-inside.result } in
+    let ready : d.store.phase ≡ Ready = sym c.phase.ensures.phase ∙ c.in-Ready.is in
+    let is : IsCollecting d n = record { ready = ready; standing = c.phase.ensures.stands; same = c.collect_step.ensures.same; shape = refl; tasks = refl; held = refl } in
+    let here : CountsStand d e = subst (λ (x : DeviceState). CountsStand x e) (sym c.self.view_is) stand in
+    let step = subst (λ (m : Moved). IsCollected d.store m n.store) c.in-Ok-Page.field-0-is (c.in-Ok-Page.ensures.moved ready) in
+    rw (c.new-in-Ok-Page.ensures) (collect_counts d n is (MovedPage c.in-Ok-Page.lun c.in-Ok-Page.lba) e step c.after_moved-self-inside.ensures here)
+
+pub returns-in-Ok-Erased-clause-counted : goal.returns-in-Ok-Erased-clause-counted
+returns-in-Ok-Erased-clause-counted g c = λ e stand.
+    let s = c.self.inside in
+    let d : DeviceState = record { store = s.store; shape = s.shape; regions = s.regions.items; tasks = s.tasks.items; held = s.held.items; counts = s.counts } in
+    let n : DeviceState = record { store = c.collect_step.new.self; shape = s.shape; regions = s.regions.items; tasks = s.tasks.items; held = s.held.items; counts = c.after_moved-self-inside-in-Ok-Erased.result } in
+    let ready : d.store.phase ≡ Ready = sym c.phase.ensures.phase ∙ c.in-Ready.is in
+    let is : IsCollecting d n = record { ready = ready; standing = c.phase.ensures.stands; same = c.collect_step.ensures.same; shape = refl; tasks = refl; held = refl } in
+    let here : CountsStand d e = subst (λ (x : DeviceState). CountsStand x e) (sym c.self.view_is) stand in
+    let step = subst (λ (m : Moved). IsCollected d.store m n.store) c.in-Ok-Erased.field-0-is (c.in-Ok-Erased.ensures.moved ready) in
+    rw (c.new-in-Ok-Erased.ensures) (collect_counts d n is (ErasedBlock c.in-Ok-Erased.block) e step c.after_moved-self-inside-in-Ok-Erased.ensures here)
+
+pub returns-in-Err-clause-counted : goal.returns-in-Err-clause-counted
+returns-in-Err-clause-counted g c = λ e stand.
+    let s = c.self.inside in
+    let d : DeviceState = record { store = s.store; shape = s.shape; regions = s.regions.items; tasks = s.tasks.items; held = s.held.items; counts = s.counts } in
+    let n : DeviceState = record { store = c.collect_step.new.self; shape = s.shape; regions = s.regions.items; tasks = s.tasks.items; held = s.held.items; counts = s.counts } in
+    let ready : d.store.phase ≡ Ready = sym c.phase.ensures.phase ∙ c.in-Ready.is in
+    let is : IsCollecting d n = record { ready = ready; standing = c.phase.ensures.stands; same = c.collect_step.ensures.same; shape = refl; tasks = refl; held = refl } in
+    let here : CountsStand d e = subst (λ (x : DeviceState). CountsStand x e) (sym c.self.view_is) stand in
+    let fault = c.in-Err.ensures.fault ready in
+    rw (c.new-in-Err.ensures) (unmoved_counts d n is c.in-Err.op e fault.chip refl here)

@@ -3,6 +3,7 @@ use Rattle.hpb_cdb.specs.declared.limits.Limits.{Limits}
 use Rattle.flat_unit.specs.Replays.{bound}
 use Rattle.hpb_device.specs.Task.{IsQueue, IsWaiting}
 use Rattle.flat_unit.specs.Reply.{reply_of}
+use Rattle.flat_unit.specs.Sound.{answers_to}
 use Rattle.flat_unit.specs.Task.{Task as Waiting}
 use Rattle.upiu_wire.specs.Upiu.{upiu_at, upiu_out}
 use Rattle.hpb_device.specs.declared.task.Task.{Task}
@@ -12,20 +13,28 @@ use Rattle.hpb_device.specs.declared.reply.Cause.TheVariants.{DataNotAsked}
 use Rattle.hpb_device.specs.declared.accept.Verdict.TheVariants.{Keep, Data, Answer, End}
 use Rattle.hpb_device.specs.Accept.{EndsFirst, TakesPiece, IsBegun}
 use Rattle.hpb_device.specs.Calls.{EndsHead, Keeps, TakesData}
+use Rattle.hpb_device.specs.Counted.{CountsStand}
 use Rattle.hpb_device.specs.Keeps.{KeepsTasks}
 use Rattle.hpb_device.specs.Reply.{reply_upiu}
 use Rattle.hpb_device.specs.Standing.{sizes_of, DeviceStands, DeviceStandsForeign}
 use Rattle.hpb_device.specs.State.{DeviceState}
 use Rattle.hpb_device.specs.Left.{steps_left, wait_of}
 use Rattle.hpb_device.proofs.Commands.{ends}
+use Rattle.hpb_device.proofs.CountingCalls.{ending_fewer, kept_counts, reply_counts}
 use Rattle.hpb_device.proofs.Entries.{answered_entries, ending_entries, kept_entries}
 use Rattle.hpb_device.proofs.Listings.{answered_listings, ending_listings, kept_listings}
 use Rattle.hpb_device.proofs.ReceiveForeign.{foreign_same, foreign_with_data, foreign_with_reply, foreign_with_task, foreign_without_head}
+use Rattle.flash_store.specs.Store.{StoreState}
+use Rattle.flat_unit.specs.History.{History}
+use Rattle.hpb_device.specs.declared.device.Sent.TheVariants.{Nothing, Upiu}
 use Rattle.hpb_device.specs.Listed.{ListingStands}
+use Rattle.hpb_device.specs.Regions.{HintsStand}
+use Rattle.hpb_device.proofs.Hinting.{answered_hints, hints_along}
+use Rattle.hpb_device.proofs.StepStands.{sizes_same}
 use Rattle.flat_unit.specs.declared.event.Event.TheVariants.{Host, Device}
 use Rattle.flat_unit.specs.History.{◌▹◌}
 use Rattle.hpb_device.proofs.Left.{ended_left, keeps_left, wait_most}
-use Rattle.hpb_device.proofs.ReceiveStands.{queue_more, waiting_all, waits_begun, stands_kept, stands_with_data, stands_with_reply, stands_without_head, owes_events, no_effects, device_is, follows_at, stands_same, answers_same}
+use Rattle.hpb_device.proofs.ReceiveStands.{queue_more, waiting_all, waits_begun, stands_kept, stands_with_data, stands_with_reply, stands_without_head, owes_events, owes_nothing, no_effects, device_is, follows_at, stands_same, answers_same}
 use Rattle.hpb_device.specs.Limits.{limits_of}
 use Rattle.hpb_device.proofs.device.Device.receive.Given.{Over}
 use Rattle.hpb_device.proofs.device.Device.receive.Goals.{After-put_reply-in-End}
@@ -44,6 +53,7 @@ invariant_of-self g c =
       units_served = c.self.invariant.units_served;
       served = c.self.invariant.served;
       whole = c.self.invariant.whole;
+      shapes = c.self.invariant.shapes;
       queue = rw pushed (queue_more s.luns (limits_of s.shape) s.tasks.items s.held.items task c.self.invariant.queue waits);
       burst = c.self.invariant.burst;
       unbegun = λ other. let none = c.self.invariant.unbegun other in (none.0, rw pushed (waiting_all s.luns (limits_of s.shape) s.tasks.items task none.1 waits));
@@ -52,7 +62,7 @@ invariant_of-self g c =
 pub returns-in-Keep-clause-stands : goal.returns-in-Keep-clause-stands
 returns-in-Keep-clause-stands g c = λ first e at.
     let s = c.self.inside in
-    let d : DeviceState = record { store = s.store; shape = s.shape; tasks = s.tasks.items; held = s.held.items; counts = s.counts } in
+    let d : DeviceState = record { store = s.store; shape = s.shape; regions = s.regions.items; tasks = s.tasks.items; held = s.held.items; counts = s.counts } in
     let lent : c.deref.result.now ≡ d.tasks = search rules in
     let before : DeviceStands d first e = subst (λ (x : DeviceState). DeviceStands x first e) (sym c.self.view_is) at in
     let kept = follows_at d c.limits_of-limits.result s.luns c.deref.result.now c.args.bytes.now (Keep c.in-Keep.task) c.limits_of-limits.ensures c.self.invariant.luns_served lent c.in-Keep.ensures.follows in
@@ -63,7 +73,7 @@ returns-in-Keep-clause-stands g c = λ first e at.
 pub returns-in-Keep-clause-foreign : goal.returns-in-Keep-clause-foreign
 returns-in-Keep-clause-foreign g c = λ chip first e at.
     let s = c.self.inside in
-    let d : DeviceState = record { store = s.store; shape = s.shape; tasks = s.tasks.items; held = s.held.items; counts = s.counts } in
+    let d : DeviceState = record { store = s.store; shape = s.shape; regions = s.regions.items; tasks = s.tasks.items; held = s.held.items; counts = s.counts } in
     let lent : c.deref.result.now ≡ d.tasks = search rules in
     let before : DeviceStandsForeign d chip first e = subst (λ (x : DeviceState). DeviceStandsForeign x chip first e) (sym c.self.view_is) at in
     let kept = follows_at d c.limits_of-limits.result s.luns c.deref.result.now c.args.bytes.now (Keep c.in-Keep.task) c.limits_of-limits.ensures c.self.invariant.luns_served lent c.in-Keep.ensures.follows in
@@ -81,7 +91,7 @@ take_data-requires g c =
 pub returns-in-Data-clause-stands : goal.returns-in-Data-clause-stands
 returns-in-Data-clause-stands g c = λ first e at.
     let s = c.self.inside in
-    let d : DeviceState = record { store = s.store; shape = s.shape; tasks = s.tasks.items; held = s.held.items; counts = s.counts } in
+    let d : DeviceState = record { store = s.store; shape = s.shape; regions = s.regions.items; tasks = s.tasks.items; held = s.held.items; counts = s.counts } in
     let lent : c.deref.result.now ≡ d.tasks = search rules in
     let segment = c.in-Data.segment.now in
     let before : DeviceStands d first e = subst (λ (x : DeviceState). DeviceStands x first e) (sym c.self.view_is) at in
@@ -94,14 +104,14 @@ returns-in-Data-clause-stands g c = λ first e at.
     let now = stands_with_data d task others c.args.bytes.now segment first e is queue.1.part taken before in
     let same = device_is d c.take_data.new.self (record task { come = task.come + length segment } ∷ others) (d.held ++ segment)
     (c.take_data.ensures.store ∙ ap (λ (x : DeviceState). x.store) (sym c.self.view_is)) (c.take_data.ensures.shape ∙ ap (λ (x : DeviceState). x.shape) (sym c.self.view_is))
-    data_taken.kept (data_taken.held ∙ ap (λ (x : DeviceState). x.held ++ segment) (sym c.self.view_is))
+    (c.take_data.ensures.regions ∙ ap (λ (x : DeviceState). x.regions) (sym c.self.view_is)) data_taken.kept (data_taken.held ∙ ap (λ (x : DeviceState). x.held ++ segment) (sym c.self.view_is))
     (c.take_data.ensures.counts ∙ ap (λ (x : DeviceState). x.counts) (sym c.self.view_is)) in
     stands_same _ _ _ _ same now
 
 pub returns-in-Data-clause-foreign : goal.returns-in-Data-clause-foreign
 returns-in-Data-clause-foreign g c = λ chip first e at.
     let s = c.self.inside in
-    let d : DeviceState = record { store = s.store; shape = s.shape; tasks = s.tasks.items; held = s.held.items; counts = s.counts } in
+    let d : DeviceState = record { store = s.store; shape = s.shape; regions = s.regions.items; tasks = s.tasks.items; held = s.held.items; counts = s.counts } in
     let lent : c.deref.result.now ≡ d.tasks = search rules in
     let segment = c.in-Data.segment.now in
     let before : DeviceStandsForeign d chip first e = subst (λ (x : DeviceState). DeviceStandsForeign x chip first e) (sym c.self.view_is) at in
@@ -114,14 +124,14 @@ returns-in-Data-clause-foreign g c = λ chip first e at.
     let now = foreign_with_data d task others c.args.bytes.now segment chip first e is queue.1.part taken before in
     let same = device_is d c.take_data.new.self (record task { come = task.come + length segment } ∷ others) (d.held ++ segment)
     (c.take_data.ensures.store ∙ ap (λ (x : DeviceState). x.store) (sym c.self.view_is)) (c.take_data.ensures.shape ∙ ap (λ (x : DeviceState). x.shape) (sym c.self.view_is))
-    data_taken.kept (data_taken.held ∙ ap (λ (x : DeviceState). x.held ++ segment) (sym c.self.view_is))
+    (c.take_data.ensures.regions ∙ ap (λ (x : DeviceState). x.regions) (sym c.self.view_is)) data_taken.kept (data_taken.held ∙ ap (λ (x : DeviceState). x.held ++ segment) (sym c.self.view_is))
     (c.take_data.ensures.counts ∙ ap (λ (x : DeviceState). x.counts) (sym c.self.view_is)) in
     foreign_same _ _ _ _ _ same now
 
 pub returns-in-Answer-clause-stands : goal.returns-in-Answer-clause-stands
 returns-in-Answer-clause-stands g c = λ first e at.
     let s = c.self.inside in
-    let d : DeviceState = record { store = s.store; shape = s.shape; tasks = s.tasks.items; held = s.held.items; counts = s.counts } in
+    let d : DeviceState = record { store = s.store; shape = s.shape; regions = s.regions.items; tasks = s.tasks.items; held = s.held.items; counts = s.counts } in
     let lent : c.deref.result.now ≡ d.tasks = search rules in
     let before : DeviceStands d first e = subst (λ (x : DeviceState). DeviceStands x first e) (sym c.self.view_is) at in
     let answered = follows_at d c.limits_of-limits.result s.luns c.deref.result.now c.args.bytes.now (Answer c.in-Answer.reply) c.limits_of-limits.ensures c.self.invariant.luns_served lent c.in-Answer.ensures.follows in
@@ -131,7 +141,7 @@ returns-in-Answer-clause-stands g c = λ first e at.
 pub returns-in-Answer-clause-foreign : goal.returns-in-Answer-clause-foreign
 returns-in-Answer-clause-foreign g c = λ chip first e at.
     let s = c.self.inside in
-    let d : DeviceState = record { store = s.store; shape = s.shape; tasks = s.tasks.items; held = s.held.items; counts = s.counts } in
+    let d : DeviceState = record { store = s.store; shape = s.shape; regions = s.regions.items; tasks = s.tasks.items; held = s.held.items; counts = s.counts } in
     let lent : c.deref.result.now ≡ d.tasks = search rules in
     let before : DeviceStandsForeign d chip first e = subst (λ (x : DeviceState). DeviceStandsForeign x chip first e) (sym c.self.view_is) at in
     let answered = follows_at d c.limits_of-limits.result s.luns c.deref.result.now c.args.bytes.now (Answer c.in-Answer.reply) c.limits_of-limits.ensures c.self.invariant.luns_served lent c.in-Answer.ensures.follows in
@@ -141,7 +151,7 @@ returns-in-Answer-clause-foreign g c = λ chip first e at.
 pub returns-in-Answer-clause-answers : goal.returns-in-Answer-clause-answers
 returns-in-Answer-clause-answers g c = λ tasks keeps.
     let s = c.self.inside in
-    let d : DeviceState = record { store = s.store; shape = s.shape; tasks = s.tasks.items; held = s.held.items; counts = s.counts } in
+    let d : DeviceState = record { store = s.store; shape = s.shape; regions = s.regions.items; tasks = s.tasks.items; held = s.held.items; counts = s.counts } in
     let lent : c.deref.result.now ≡ d.tasks = search rules in
     let before : KeepsTasks d.tasks d.held tasks = subst (λ (x : DeviceState). KeepsTasks x.tasks x.held tasks) (sym c.self.view_is) keeps in
     let answered = follows_at d c.limits_of-limits.result s.luns c.deref.result.now c.args.bytes.now (Answer c.in-Answer.reply) c.limits_of-limits.ensures c.self.invariant.luns_served lent c.in-Answer.ensures.follows tasks before in
@@ -151,7 +161,7 @@ returns-in-Answer-clause-answers g c = λ tasks keeps.
 pub returns-in-Keep-clause-receives : goal.returns-in-Keep-clause-receives
 returns-in-Keep-clause-receives g c =
     let s = c.self.inside in
-    let d : DeviceState = record { store = s.store; shape = s.shape; tasks = s.tasks.items; held = s.held.items; counts = s.counts } in
+    let d : DeviceState = record { store = s.store; shape = s.shape; regions = s.regions.items; tasks = s.tasks.items; held = s.held.items; counts = s.counts } in
     let lent : c.deref.result.now ≡ d.tasks = search rules in
     let task = c.in-Keep.task in
     let pushed : c.push.new.self.items ≡ d.tasks ++ task ∷ [] = c.push.ensures.items in
@@ -159,7 +169,7 @@ returns-in-Keep-clause-receives g c =
     subst (λ (lim : Limits). IsBegun lim d.store.luns (upiu_at c.args.bytes.now) task) c.limits_of-limits.ensures
     (subst (λ (luns : ℕ). IsBegun c.limits_of-limits.result luns (upiu_at c.args.bytes.now) task) (sym c.self.invariant.luns_served) c.in-Keep.ensures.verdict.1) in
     let some : 1 ≤ d.store.geometry.pages = let limits = c.self.invariant.served.limits in omega (arith, limits.least_pages) in
-    let now : DeviceState = record { store = s.store; shape = s.shape; tasks = c.push.new.self.items; held = s.held.items; counts = s.counts } in
+    let now : DeviceState = record { store = s.store; shape = s.shape; regions = s.regions.items; tasks = c.push.new.self.items; held = s.held.items; counts = s.counts } in
     let left : steps_left now ≤ steps_left d + bound (sizes_of d) task.command =
     subst (λ (ts : List Task). steps_left (record d { tasks = ts }) ≤ steps_left d + bound (sizes_of d) task.command) (sym pushed) (keeps_left d task some) in
     let keeps : Keeps d now c.args.bytes.now = record { task = task; room = subst (λ (ts : List Task). length ts < 32) lent c.in-Keep.ensures.verdict.0; begun = begun; kept = pushed; held = refl; left = left } in
@@ -167,13 +177,13 @@ returns-in-Keep-clause-receives g c =
 
 -- the device without its head
 abbrev now_of : (g : Over) → After-put_reply-in-End g → DeviceState
-now_of g c = let s = c.self.inside in record { store = s.store; shape = s.shape; tasks = c.end_head.new.tasks.items; held = c.end_head.new.held.items; counts = s.counts }
+now_of g c = let s = c.self.inside in record { store = s.store; shape = s.shape; regions = s.regions.items; tasks = c.end_head.new.tasks.items; held = c.end_head.new.held.items; counts = s.counts }
 
 -- the head has ended
 ends_it : (g : Over) (c : After-put_reply-in-End g) → EndsHead c.args.self.now (now_of g c) c.put_reply-in-End.new.out
 ends_it g c =
     let s = c.self.inside in
-    let d : DeviceState = record { store = s.store; shape = s.shape; tasks = s.tasks.items; held = s.held.items; counts = s.counts } in
+    let d : DeviceState = record { store = s.store; shape = s.shape; regions = s.regions.items; tasks = s.tasks.items; held = s.held.items; counts = s.counts } in
     let lent : c.deref.result.now ≡ d.tasks = search rules in
     let ended = ends d.tasks c.in-End.reply (subst (λ (ts : List Task). EndsFirst ts c.in-End.reply) lent c.in-End.ensures.verdict) in
     let now = now_of g c in
@@ -200,7 +210,7 @@ returns-in-End-clause-receives g c = inr (ends_it g c)
 pub returns-in-End-clause-stands : goal.returns-in-End-clause-stands
 returns-in-End-clause-stands g c = λ first e at.
     let s = c.self.inside in
-    let d : DeviceState = record { store = s.store; shape = s.shape; tasks = s.tasks.items; held = s.held.items; counts = s.counts } in
+    let d : DeviceState = record { store = s.store; shape = s.shape; regions = s.regions.items; tasks = s.tasks.items; held = s.held.items; counts = s.counts } in
     let lent : c.deref.result.now ≡ d.tasks = search rules in
     let before : DeviceStands d first e = subst (λ (x : DeviceState). DeviceStands x first e) (sym c.self.view_is) at in
     let ended = ends d.tasks c.in-End.reply (subst (λ (ts : List Task). EndsFirst ts c.in-End.reply) lent c.in-End.ensures.verdict) in
@@ -217,7 +227,7 @@ returns-in-End-clause-stands g c = λ first e at.
 pub returns-in-End-clause-foreign : goal.returns-in-End-clause-foreign
 returns-in-End-clause-foreign g c = λ chip first e at.
     let s = c.self.inside in
-    let d : DeviceState = record { store = s.store; shape = s.shape; tasks = s.tasks.items; held = s.held.items; counts = s.counts } in
+    let d : DeviceState = record { store = s.store; shape = s.shape; regions = s.regions.items; tasks = s.tasks.items; held = s.held.items; counts = s.counts } in
     let lent : c.deref.result.now ≡ d.tasks = search rules in
     let before : DeviceStandsForeign d chip first e = subst (λ (x : DeviceState). DeviceStandsForeign x chip first e) (sym c.self.view_is) at in
     let ended = ends d.tasks c.in-End.reply (subst (λ (ts : List Task). EndsFirst ts c.in-End.reply) lent c.in-End.ensures.verdict) in
@@ -234,7 +244,7 @@ returns-in-End-clause-foreign g c = λ chip first e at.
 pub returns-in-End-clause-answers : goal.returns-in-End-clause-answers
 returns-in-End-clause-answers g c = λ tasks keeps.
     let s = c.self.inside in
-    let d : DeviceState = record { store = s.store; shape = s.shape; tasks = s.tasks.items; held = s.held.items; counts = s.counts } in
+    let d : DeviceState = record { store = s.store; shape = s.shape; regions = s.regions.items; tasks = s.tasks.items; held = s.held.items; counts = s.counts } in
     let lent : c.deref.result.now ≡ d.tasks = search rules in
     let before : KeepsTasks d.tasks d.held tasks = subst (λ (x : DeviceState). KeepsTasks x.tasks x.held tasks) (sym c.self.view_is) keeps in
     let answers = follows_at d c.limits_of-limits.result s.luns c.deref.result.now c.args.bytes.now (End c.in-End.reply) c.limits_of-limits.ensures c.self.invariant.luns_served lent c.in-End.ensures.follows tasks before in
@@ -261,7 +271,7 @@ returns-in-Keep-clause-entries g c = λ e stand.
 pub returns-in-Answer-clause-listings : goal.returns-in-Answer-clause-listings
 returns-in-Answer-clause-listings g c = λ had pages first e at stand.
     let s = c.self.inside in
-    let d : DeviceState = record { store = s.store; shape = s.shape; tasks = s.tasks.items; held = s.held.items; counts = s.counts } in
+    let d : DeviceState = record { store = s.store; shape = s.shape; regions = s.regions.items; tasks = s.tasks.items; held = s.held.items; counts = s.counts } in
     let lent : c.deref.result.now ≡ d.tasks = search rules in
     let before : DeviceStands d first e = subst (λ (x : DeviceState). DeviceStands x first e) (sym c.self.view_is) at in
     let answered = follows_at d c.limits_of-limits.result s.luns c.deref.result.now c.args.bytes.now (Answer c.in-Answer.reply) c.limits_of-limits.ensures c.self.invariant.luns_served lent c.in-Answer.ensures.follows in
@@ -282,3 +292,82 @@ returns-in-Keep-clause-listings g c = λ had pages first e at stand.
     let store = ap (λ (x : DeviceState). x.store) c.self.view_is in
     let shape = ap (λ (x : DeviceState). x.shape) c.self.view_is in
     kept_listings had pages c.args.self.now _ c.args.bytes.now e (returns-in-Keep-clause-receives g c) store shape stand
+
+-- the device has the same regions, of the same units
+hints_still : (d now : DeviceState) (e : History) → now.store ≡ d.store → now.shape ≡ d.shape → now.regions ≡ d.regions → HintsStand d e → HintsStand now e
+hints_still d now e store shape regions stand =
+    hints_along d now e regions shape (sizes_same d now (record {
+      geometry = ap (λ (z : StoreState). z.geometry) store;
+      luns = ap (λ (z : StoreState). z.luns) store;
+      units = ap (λ (z : StoreState). z.units) store;
+    }) shape) stand
+
+pub returns-in-Keep-clause-hints : goal.returns-in-Keep-clause-hints
+returns-in-Keep-clause-hints g c = λ e keeps stand.
+    let s = c.self.inside in
+    let d : DeviceState = record { store = s.store; shape = s.shape; regions = s.regions.items; tasks = s.tasks.items; held = s.held.items; counts = s.counts } in
+    let lent : c.deref.result.now ≡ d.tasks = search rules in
+    let answers : (tasks : List Waiting) → KeepsTasks c.args.self.now.tasks c.args.self.now.held tasks → answers_to (sizes_of c.args.self.now) true tasks c.args.bytes.now ≡ [] =
+    λ tasks keeps_tasks.
+    let before : KeepsTasks d.tasks d.held tasks = subst (λ (x : DeviceState). KeepsTasks x.tasks x.held tasks) (sym c.self.view_is) keeps_tasks in
+    let kept = follows_at d c.limits_of-limits.result s.luns c.deref.result.now c.args.bytes.now (Keep c.in-Keep.task) c.limits_of-limits.ensures c.self.invariant.luns_served lent c.in-Keep.ensures.follows tasks before in
+    answers_same _ _ _ _ _ c.self.view_is (owes_nothing (sizes_of d) tasks c.args.bytes.now kept.silent) in
+    let is = c.self.view_is in
+    hints_still c.args.self.now _ (e ▹ Host c.args.bytes.now) (ap (λ (x : DeviceState). x.store) is) (ap (λ (x : DeviceState). x.shape) is) (ap (λ (x : DeviceState). x.regions) is)
+    (answered_hints c.args.self.now c.args.bytes.now Nothing [] e keeps answers stand)
+
+pub returns-in-Data-clause-hints : goal.returns-in-Data-clause-hints
+returns-in-Data-clause-hints g c = λ e keeps stand.
+    let s = c.self.inside in
+    let d : DeviceState = record { store = s.store; shape = s.shape; regions = s.regions.items; tasks = s.tasks.items; held = s.held.items; counts = s.counts } in
+    let lent : c.deref.result.now ≡ d.tasks = search rules in
+    let answers : (tasks : List Waiting) → KeepsTasks c.args.self.now.tasks c.args.self.now.held tasks → answers_to (sizes_of c.args.self.now) true tasks c.args.bytes.now ≡ [] =
+    λ tasks keeps_tasks.
+    let before : KeepsTasks d.tasks d.held tasks = subst (λ (x : DeviceState). KeepsTasks x.tasks x.held tasks) (sym c.self.view_is) keeps_tasks in
+    let kept = follows_at d c.limits_of-limits.result s.luns c.deref.result.now c.args.bytes.now (Data c.in-Data.segment) c.limits_of-limits.ensures c.self.invariant.luns_served lent c.in-Data.ensures.follows tasks before in
+    answers_same _ _ _ _ _ c.self.view_is (owes_nothing (sizes_of d) tasks c.args.bytes.now kept.silent) in
+    hints_still c.args.self.now c.take_data.new.self (e ▹ Host c.args.bytes.now) c.take_data.ensures.store c.take_data.ensures.shape c.take_data.ensures.regions
+    (answered_hints c.args.self.now c.args.bytes.now Nothing [] e keeps answers stand)
+
+pub returns-in-Answer-clause-hints : goal.returns-in-Answer-clause-hints
+returns-in-Answer-clause-hints g c = λ e keeps stand.
+    answered_hints c.args.self.now c.args.bytes.now Upiu c.put_reply.new.out e keeps (returns-in-Answer-clause-answers g c) stand
+
+pub returns-in-End-clause-hints : goal.returns-in-End-clause-hints
+returns-in-End-clause-hints g c = λ e keeps stand.
+    let is = c.self.view_is in
+    hints_still c.args.self.now (now_of g c) (e ▹ Host c.args.bytes.now ▹ Device c.put_reply-in-End.new.out) (ap (λ (x : DeviceState). x.store) is) (ap (λ (x : DeviceState). x.shape) is)
+    (ap (λ (x : DeviceState). x.regions) is)
+    (answered_hints c.args.self.now c.args.bytes.now Upiu c.put_reply-in-End.new.out e keeps (returns-in-End-clause-answers g c) stand)
+
+pub returns-in-Keep-clause-counted : goal.returns-in-Keep-clause-counted
+returns-in-Keep-clause-counted g c = λ first e at stand.
+    let store = ap (λ (x : DeviceState). x.store) c.self.view_is in
+    let shape = ap (λ (x : DeviceState). x.shape) c.self.view_is in
+    let counts = ap (λ (x : DeviceState). x.counts) c.self.view_is in
+    kept_counts c.args.self.now _ c.args.bytes.now e (returns-in-Keep-clause-receives g c) store shape counts stand
+
+pub returns-in-Answer-clause-counted : goal.returns-in-Answer-clause-counted
+returns-in-Answer-clause-counted g c = λ first e at stand.
+    let s = c.self.inside in
+    let d : DeviceState = record { store = s.store; shape = s.shape; regions = s.regions.items; tasks = s.tasks.items; held = s.held.items; counts = s.counts } in
+    let lent : c.deref.result.now ≡ d.tasks = search rules in
+    let before : DeviceStands d first e = subst (λ (x : DeviceState). DeviceStands x first e) (sym c.self.view_is) at in
+    let answers : (tasks : List Waiting) → KeepsTasks d.tasks d.held tasks → reply_of (sizes_of d) true tasks c.args.bytes.now ≡ Some (reply_upiu c.in-Answer.reply) =
+    λ tasks keeps. (follows_at d c.limits_of-limits.result s.luns c.deref.result.now c.args.bytes.now (Answer c.in-Answer.reply) c.limits_of-limits.ensures c.self.invariant.luns_served lent c.in-Answer.ensures.follows tasks keeps).answers in
+    let now = reply_counts d d c.args.bytes.now e refl refl refl (omega arith) (subst (λ (x : DeviceState). CountsStand x e) (sym c.self.view_is) stand)
+    (reply_upiu c.in-Answer.reply) c.put_reply.new.out first before answers c.put_reply.ensures in
+    subst (λ (x : DeviceState). CountsStand x (e ▹ Host c.args.bytes.now ▹ Device c.put_reply.new.out)) c.self.view_is now
+
+pub returns-in-End-clause-counted : goal.returns-in-End-clause-counted
+returns-in-End-clause-counted g c = λ first e at stand.
+    let s = c.self.inside in
+    let d : DeviceState = record { store = s.store; shape = s.shape; regions = s.regions.items; tasks = s.tasks.items; held = s.held.items; counts = s.counts } in
+    let lent : c.deref.result.now ≡ d.tasks = search rules in
+    let before : DeviceStands d first e = subst (λ (x : DeviceState). DeviceStands x first e) (sym c.self.view_is) at in
+    let ends : EndsHead d (now_of g c) c.put_reply-in-End.new.out = subst (λ (x : DeviceState). EndsHead x (now_of g c) c.put_reply-in-End.new.out) (sym c.self.view_is) (ends_it g c) in
+    let answers : (tasks : List Waiting) → KeepsTasks d.tasks d.held tasks → reply_of (sizes_of d) true tasks c.args.bytes.now ≡ Some (reply_upiu c.in-End.reply) =
+    λ tasks keeps. follows_at d c.limits_of-limits.result s.luns c.deref.result.now c.args.bytes.now (End c.in-End.reply) c.limits_of-limits.ensures c.self.invariant.luns_served lent c.in-End.ensures.follows tasks keeps in
+    let fewer = ending_fewer d (now_of g c) s.luns (limits_of s.shape) c.put_reply-in-End.new.out c.self.invariant.queue ends in
+    reply_counts d (now_of g c) c.args.bytes.now e refl refl refl fewer (subst (λ (x : DeviceState). CountsStand x e) (sym c.self.view_is) stand)
+    (reply_upiu c.in-End.reply) c.put_reply-in-End.new.out first before answers c.put_reply-in-End.ensures

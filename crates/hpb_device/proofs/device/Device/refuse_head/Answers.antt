@@ -14,7 +14,7 @@ use Rattle.hpb_device.proofs.device.Device.refuse_head.Goals as goal
 
 -- the device before the step, and after it
 abbrev before : (g : Over) → After-end_unread g → DeviceState
-before g c = let s = c.self.inside in record { store = s.store; shape = s.shape; tasks = s.tasks.items; held = s.held.items; counts = s.counts }
+before g c = let s = c.self.inside in record { store = s.store; shape = s.shape; regions = s.regions.items; tasks = s.tasks.items; held = s.held.items; counts = s.counts }
 
 abbrev after : (g : Over) → After-end_unread g → DeviceState
 after g c = record (before g c) { tasks = c.end_unread.new.tasks.items; held = c.end_unread.new.held.items; counts = c.stepped-self-inside.result }
@@ -34,6 +34,7 @@ returns-clause-refuses g c =
       scanned = omega (arith, read);
       waiting = unready.waiting;
       store = refl;
+      regions = refl;
       held = c.end_unread.ensures.held;
       counts = c.stepped-self-inside.ensures;
       ends = c.end_unread.ensures.ends;

@@ -1,5 +1,5 @@
 -- So many calls of the collector are made for a line. Behind the first one with nothing to do, no other does anything.
-use Rattle.std.proofs.Common.{◌≡◌, ◌⊎◌, ℕ, suc, ◌+◌, ◌-◌, ◌*◌, ◌^◌, ◌<◌, ◌≤◌, min, Bool, true, false, not, ◌||◌, List, [], ◌∷◌, ◌++◌, length, length-append, Option, Some, None, refl, sym, ◌∙◌, ap, subst, arith, inl, inr}
+use Rattle.std.proofs.Common.{◌≡◌, ◌⊎◌, ℕ, suc, ◌+◌, ◌*◌, ◌^◌, ◌<◌, ◌≤◌, Bool, true, false, not, ◌||◌, List, [], ◌∷◌, ◌++◌, length, length-append, Option, Some, None, refl, sym, ◌∙◌, ap, subst, arith, inl, inr}
 use Rattle.std.proofs.lemmas.Bool.{cases_lt, false≢true}
 use Rattle.std.specs.Prelude.{All, filter, flat_map, is_some, IsTrue, if◌then◌else◌}
 use Rattle.std.specs.Bool.{OnFalse}
@@ -20,24 +20,25 @@ use Rattle.flat_unit.specs.Replays.{OpenRun, Progress, IsCollection, LineTo, col
 use Rattle.flat_unit.specs.Sizes.{Sizes}
 use Rattle.flat_unit.specs.Stands.{First}
 use Rattle.flat_unit.specs.Trace.{Collect}
-use Rattle.flat_unit.specs.Writes.{moves}
 use Rattle.flat_unit.proofs.History.{failures_are-followed_by}
 use Rattle.hpb_device.specs.declared.device.Stepped.{Stepped}
 use Rattle.hpb_device.specs.Advance.{IsSameStore}
 use Rattle.hpb_device.specs.Calls.{CollectsOn, uncollected_in}
+use Rattle.hpb_device.specs.Counted.{CountsStand}
 use Rattle.hpb_device.specs.Entries.{EntriesStand}
+use Rattle.hpb_device.specs.Regions.{HintsStand}
 use Rattle.hpb_device.specs.Left.{KeepsNoWrite, steps_left}
 use Rattle.hpb_device.specs.Limits.{limits_of}
 use Rattle.hpb_device.specs.Listed.{ListingStands}
 use Rattle.hpb_device.specs.Sizes.{sizes}
 use Rattle.hpb_device.specs.Standing.{DeviceStands, DeviceStandsForeign, first_of, group_of, sizes_of}
-use Rattle.hpb_device.specs.State.{DeviceState, AreAtRest}
+use Rattle.hpb_device.specs.State.{DeviceState, AreAtRest, IsSound}
 use Rattle.hpb_device.specs.Task.{WasSilent}
-use Rattle.hpb_device.proofs.Collecting.{collect_fails, collect_moves_counted, collect_sends_none, collect_steps_counted}
+use Rattle.hpb_device.proofs.Collecting.{collect_fails, collect_sends_none, collect_steps_counted}
 use Rattle.trace_replay.specs.Moments.{HasCollected, LacksEnough, Leads, Cuts, CutLineTo, Standing, pages_in}
 use Rattle.trace_replay.specs.Transcript.{HasNoMore, has_page}
 use Rattle.trace_replay.specs.Writes.{AppendsFront, HasWrittenUpTo}
-use Rattle.trace_replay.proofs.Counts.{fails_in, followed_by-more, moves-followed_by, unready_group}
+use Rattle.trace_replay.proofs.Counts.{fails_in, followed_by-more, unready_group}
 use Rattle.trace_replay.proofs.Plain.{place_of_step, plain_group}
 use Rattle.trace_replay.proofs.Standing.{events_gathered, run_standing, same_since, with_runs}
 
@@ -47,6 +48,9 @@ pub record Calling (old new : DeviceState) (r : Stepped) : Type 0 where
   pub foreign : (chip : List Page) (first : First) (e : History) → DeviceStandsForeign old chip first e → DeviceStandsForeign new chip first (followed_by e (events_of (group_of r [])))
   pub entries : (e : History) → EntriesStand old e → EntriesStand new (followed_by e (events_of (group_of r [])))
   pub listings : (had : Place → Bool) (pages : ℕ) (e : History) → ListingStands had pages old e → ListingStands had pages new (followed_by e (events_of (group_of r [])))
+  pub counted : (e : History) → CountsStand old e → CountsStand new (followed_by e (events_of (group_of r [])))
+  pub hints : (e : History) → HintsStand old e → HintsStand new (followed_by e (events_of (group_of r [])))
+  pub sound : old.store.phase ≡ Ready → IsSound old
   pub calls : CollectsOn old new r
   pub fewer : r.failed ≡ None → uncollected_in new < uncollected_in old
   pub most : uncollected_in old ≤ 2 * old.store.geometry.pages * pages_in old
@@ -142,10 +146,11 @@ call_standing start old new q r count at call runs counts =
     let none = tells_none r r.sent refl silent in
     let store : IsSameStore old.store new.store = record { geometry = call.calls.same.geometry; luns = call.calls.same.luns; units = call.calls.same.units } in
     let made = collect_steps_counted old new r call.calls in
-    let added = moves-followed_by q.events (events_by r) in
     let blocks : pages_in new ≡ pages_in old = λ i. (call.calls.same.geometry i).blocks * (call.calls.same.geometry i).pages in
     record {
       some_page = at.some_page;
+      shape = call.shape ∙ at.shape;
+      hints = call.hints q.events at.hints;
       sizes = (λ i. sizes (call.calls.same.luns i) (limits_of (call.shape i)) (call.calls.same.geometry i)) ∙ at.sizes;
       same = same_since start.store old.store new.store at.same store;
       faults = failures_are-followed_by start.store.faults old.store.faults new.store.faults q.events (events_by r) at.faults (collect_fails old new r call.calls);
@@ -153,7 +158,6 @@ call_standing start old new q r count at call runs counts =
       lacking = still_lacks old new r q.runs call runs at.lacking;
       quiet = omega (arith, at.quiet, blocks, call.calls.same.scanned);
       steps = omega (arith, at.steps, made);
-      moved = collect_moves_counted old new r (moves q.events) call.calls at.moved ∙ ap (λ (n : ℕ). min n (2 ^ 64 - 1)) (sym added);
       ready = λ is. call.calls.same.phase ∙ at.ready is;
       collected = λ ready some. has_collected start old new q r count at call counts some;
       chip = elim at.chip [
@@ -162,6 +166,7 @@ call_standing start old new q r count at call runs counts =
           stands = call.stands (first_of start) q.events own.stands;
           entries = call.entries q.events own.entries;
           listings = call.listings (has_page start.store.pages) (pages_in start) q.events own.listings;
+          counted = call.counted q.events own.counted;
           tried = λ is. subst WasSilent (sym call.calls.tasks) (own.tried is);
         })
         | inr foreign ↦
@@ -170,6 +175,7 @@ call_standing start old new q r count at call runs counts =
               stands = λ first. call.foreign start.store.pages first q.events (foreign.stands first);
               unready = unready_group (sizes_of start) q.events r.failed (group_of r []).moved (group_of r []).sent (λ bytes is. absurd (no_upiu none is))
                   (record { unready = foreign.unready; nothing_owed = subst (λ (s : Sizes). Rattle.flat_unit.specs.Sound.owed s q.events ≡ []) at.sizes here.stands.sound.nothing_owed });
+              counted = absurd (here.unsound (call.sound call.calls.phase));
               untried = foreign.untried;
             })
       ];
@@ -295,18 +301,19 @@ idle_standing : (start now : DeviceState) (q : Progress) (count : ℕ) → Rests
 idle_standing start now q count rests at = record {
   some_page = at.some_page;
   sizes = at.sizes;
+  shape = at.shape;
   same = at.same;
   faults = at.faults;
   plain = at.plain;
+  hints = at.hints;
   lacking = at.lacking;
   quiet = at.quiet;
   steps = at.steps;
-  moved = at.moved;
   ready = at.ready;
   collected = λ ready some. record { fewer = inr (rests ready).0; over = λ none. (rests ready).1 };
   chip = elim at.chip [
-    | inl own ↦ inl (record { was = own.was; stands = own.stands; entries = own.entries; listings = own.listings; tried = own.tried })
-    | inr foreign ↦ inr (record { stands = foreign.stands; unready = foreign.unready; untried = foreign.untried })
+    | inl own ↦ inl (record { was = own.was; stands = own.stands; entries = own.entries; listings = own.listings; counted = own.counted; tried = own.tried })
+    | inr foreign ↦ inr (record { stands = foreign.stands; unready = foreign.unready; counted = foreign.counted; untried = foreign.untried })
   ];
 }
 
@@ -331,17 +338,23 @@ pub calling_of : (old new : DeviceState) (r : Stepped)
     → ((chip : List Page) (first : First) (e : History) → DeviceStandsForeign old chip first e → DeviceStandsForeign new chip first (followed_by e (events_of (group_of r []))))
     → ((e : History) → EntriesStand old e → EntriesStand new (followed_by e (events_of (group_of r []))))
     → ((had : Place → Bool) (pages : ℕ) (e : History) → ListingStands had pages old e → ListingStands had pages new (followed_by e (events_of (group_of r []))))
+    → ((e : History) → CountsStand old e → CountsStand new (followed_by e (events_of (group_of r []))))
+    → ((e : History) → HintsStand old e → HintsStand new (followed_by e (events_of (group_of r []))))
+    → (old.store.phase ≡ Ready → IsSound old)
     → (IsTrue r.idle → ⊥) → OnFalse r.idle (CollectsOn old new r) → OnFalse r.idle (r.failed ≡ None → uncollected_in new < uncollected_in old)
     → (old.store.phase ≡ Ready → uncollected_in old ≤ 2 * old.store.geometry.pages * (old.store.geometry.blocks * old.store.geometry.pages))
     → (old.store.phase ≡ Ready → r.failed ≡ None → uncollected_in new ≡ 0 → HasNoMore new.store.geometry new.store.pages)
     → (KeepsNoWrite old.tasks → steps_left new ≡ steps_left old) → new.shape ≡ old.shape → ((place : ℕ × ℕ) → r.moved ≡ Some place → (place.0 < 2 ^ 8) × (place.1 < 2 ^ 32)) → Calling old new r
-calling_of old new r stands foreign entries listings busy collects fewer most over left shape small =
+calling_of old new r stands foreign entries listings counted hints sound busy collects fewer most over left shape small =
     let calls = on_false r.idle busy collects in
     record {
       stands = stands;
       foreign = foreign;
       entries = entries;
       listings = listings;
+      counted = counted;
+      hints = hints;
+      sound = sound;
       calls = calls;
       fewer = on_false r.idle busy fewer;
       most = most calls.phase;

@@ -16,7 +16,7 @@ use Rattle.hpb_device.specs.declared.counts.Counts.{Counts}
 use Rattle.flash_pages.specs.Chip.{Page}
 use Rattle.trace_replay.specs.Run.{IsCutShort, IsPlanned, ProgramIs, RunIs, SinkEnds, SourceEnds, bad_line_text, counts_text, long_text}
 use Rattle.trace_replay.specs.Showing.{ShowIs, ShowProgramIs}
-use Rattle.trace_replay.specs.Transcript.{AreCounts, IsChipOf, IsPlain, IsTranscript, SendsUnready, sizes_on, unit_on}
+use Rattle.trace_replay.specs.Transcript.{IsChipOf, IsPlain, IsTranscript, SendsUnready, sizes_on, unit_on}
 use Rattle.trace_replay.specs.Words.{named_unit}
 use Rattle.trace_replay.specs.declared.status.Status.{Status}
 use Rattle.trace_replay.specs.declared.status.Status.TheVariants.{Done, BadLine, ReadFault, WriteFault, LongTrace, Usage, Memory, Geometry as BadGeometry, ChipFault, BadImage, BadCapture}
@@ -85,7 +85,7 @@ no_text known = appends_nothing known
 
 -- no events are plain
 none_plain : IsPlain []
-none_plain = record { bytes = tt; short = tt; hintless = tt }
+none_plain = record { bytes = tt; short = tt }
 
 tells_program : (P : History → Type 0) (words : List (List ℕ)) (geometry : Geometry) (good : Progress → Type 0) (counted : Progress → Counts → Type 0) (same : Type 0) (left left_now w w_now : Option (List ℕ)) (limit : ℕ) (status : Status)
     → P [] → ((p : Progress) → good p → P p.events) → ((p : Progress) → good p → IsPlain p.events)
@@ -97,19 +97,19 @@ tells_program P words geometry good counted same left left_now w w_now limit sta
         (record { events = []; words = []; plain = none_plain; last = inl refl; holds = none; written = subst (λ (now : Option (List ℕ)). Appends w now (print [] ++ [])) (sym nothing) (no_text w) })
     by_run (inr run) = tells_run P (sizes_on (named_unit words) geometry) good counted left left_now w w_now limit status leads plain run
 
-module _ (words : List (List ℕ)) (geometry : Geometry) (faults faults_back : ℕ) (chip back : List Page) (same : Type 0) (left left_now w w_now : Option (List ℕ)) (status : Status) (planned : IsPlanned words geometry)
-    (program : ProgramIs words geometry (IsTranscript (named_unit words) geometry faults faults_back chip back) AreCounts same left left_now w w_now 1000000 status) where
+module _ (words : List (List ℕ)) (geometry : Geometry) (faults faults_back : ℕ) (chip back : List Page) (counted : Progress → Counts → Type 0) (same : Type 0) (left left_now w w_now : Option (List ℕ)) (status : Status) (planned : IsPlanned words geometry)
+    (program : ProgramIs words geometry (IsTranscript (named_unit words) geometry faults faults_back chip back) counted same left left_now w w_now 1000000 status) where
   pub tells_allowed : IsChipOf (named_unit words) geometry chip → Tells status w w_now (ReadsAllowed (sizes_on (named_unit words) geometry) (unit_on (named_unit words) chip))
   tells_allowed sound =
-      tells_program _ words geometry _ AreCounts same left left_now w w_now 1000000 status tt (λ p is. reads_allowed _ _ p.events (is.own sound).sound.so_far) (λ p is. is.plain) planned program
+      tells_program _ words geometry _ counted same left left_now w w_now 1000000 status tt (λ p is. reads_allowed _ _ p.events (is.own sound).sound.so_far) (λ p is. is.plain) planned program
 
   pub tells_good : IsChipOf (named_unit words) geometry chip → Tells status w w_now (ReadsEndGood (sizes_on (named_unit words) geometry))
   tells_good sound =
-      tells_program _ words geometry _ AreCounts same left left_now w w_now 1000000 status tt (λ p is. reads_end_well _ _ _ p.events (is.own sound).sound.so_far (is.own sound).caused) (λ p is. is.plain) planned program
+      tells_program _ words geometry _ counted same left left_now w w_now 1000000 status tt (λ p is. reads_end_well _ _ _ p.events (is.own sound).sound.so_far (is.own sound).caused) (λ p is. is.plain) planned program
 
   pub tells_unready : ¬ IsChipOf (named_unit words) geometry chip → Tells status w w_now (SendsUnready (sizes_on (named_unit words) geometry))
   tells_unready unsound =
-      tells_program _ words geometry _ AreCounts same left left_now w w_now 1000000 status tt (λ p is. (is.foreign unsound).unready) (λ p is. is.plain) planned program
+      tells_program _ words geometry _ counted same left left_now w w_now 1000000 status tt (λ p is. (is.foreign unsound).unready) (λ p is. is.plain) planned program
 
 -- a run that took all lines drains its reads
 pub drains_all : (words : List (List ℕ)) (geometry : Geometry) (good : Progress → Type 0) (counted : Progress → Counts → Type 0) (same : Type 0) (left left_now w w_now : Option (List ℕ)) (limit : ℕ) (status : Status)

@@ -102,18 +102,19 @@ rest_standing start now m rests looked at =
     record {
       some_page = at.some_page;
       sizes = at.sizes;
+      shape = at.shape;
       same = at.same;
       faults = at.faults;
       plain = at.plain;
+      hints = at.hints;
       lacking = at.lacking;
       quiet = omega (arith, at.quiet, looked);
       steps = omega (arith, at.steps);
-      moved = at.moved;
       ready = λ is. at.ready (sym (or_false m.served) ∙ is);
       collected = λ is some. absurd (omega (arith, some));
       chip = elim at.chip [
-        | inl own ↦ inl (record { was = own.was; stands = own.stands; entries = own.entries; listings = own.listings; tried = λ is. own.tried (sym same ∙ is) })
-        | inr foreign ↦ inr (record { stands = foreign.stands; unready = foreign.unready; untried = same ∙ foreign.untried })
+        | inl own ↦ inl (record { was = own.was; stands = own.stands; entries = own.entries; listings = own.listings; counted = own.counted; tried = λ is. own.tried (sym same ∙ is) })
+        | inr foreign ↦ inr (record { stands = foreign.stands; unready = foreign.unready; counted = foreign.counted; untried = same ∙ foreign.untried })
       ];
     }
 

@@ -1,9 +1,8 @@
--- Each event that a call prints is plain: its bytes are bytes, its numbers have room, and it carries no hint.
+-- Each event that a call prints is plain: its bytes are bytes, its numbers have room.
 use Rattle.std.proofs.Common.{◌≡◌, ℕ, ◌^◌, ◌<◌, ◌≤◌, Bool, true, false, List, length, Option, Some, None, refl, sym, ◌∙◌, ap, subst}
 use Rattle.std.specs.Option.{option_map}
 use Rattle.std.specs.Prelude.{if◌then◌else◌}
 use Rattle.flat_unit.specs.declared.event.Event.TheVariants.{Host, Device, Failed, Moved, Reset}
-use Rattle.flat_unit.specs.Hintless.{IsHintless}
 use Rattle.flat_unit.specs.History.{History, ◌▹◌, followed_by}
 use Rattle.flat_unit.specs.Replays.{events_of, moved_events}
 use Rattle.flash_pages.specs.declared.chip.ChipOp.{ChipOp}
@@ -14,32 +13,29 @@ use Rattle.hpb_device.specs.declared.device.Sent.TheVariants.{Nothing, Upiu as U
 use Rattle.hpb_device.specs.declared.device.Stepped.{Stepped}
 use Rattle.hpb_device.specs.Standing.{answer_events, group_of}
 use Rattle.hex.specs.Hex.{IsBytes}
-use Rattle.upiu_wire.specs.Upiu.{upiu_at}
 
--- what a device sends where no hint is given
+-- what a device sends
 pub record IsPlainUpiu (bytes : List ℕ) : Type 0 where
   pub bytes_are : IsBytes bytes
   pub short : length bytes ≤ 4128
-  pub hintless : IsHintless (upiu_at bytes) (upiu_at bytes).kind
 
 pub plain_sent : (e : History) (bytes : List ℕ) → IsPlain e → IsPlainUpiu bytes → IsPlain (e ▹ Device bytes)
 plain_sent e bytes so_far is = record {
   bytes = (is.bytes_are, so_far.bytes);
   short = (is.short, so_far.short);
-  hintless = (so_far.hintless, is.hintless);
 }
 
 plain_failed : (e : History) (op : ChipOp) → IsPlain e → IsPlain (e ▹ Failed op)
-plain_failed e op so_far = record { bytes = (tt, so_far.bytes); short = (tt, so_far.short); hintless = so_far.hintless }
+plain_failed e op so_far = record { bytes = (tt, so_far.bytes); short = (tt, so_far.short) }
 
 plain_moved : (e : History) (lun lba : ℕ) → lun < 2 ^ 8 → lba < 2 ^ 32 → IsPlain e → IsPlain (e ▹ Moved lun lba)
-plain_moved e lun lba lun_fits lba_fits so_far = record { bytes = ((lun_fits, lba_fits), so_far.bytes); short = (tt, so_far.short); hintless = so_far.hintless }
+plain_moved e lun lba lun_fits lba_fits so_far = record { bytes = ((lun_fits, lba_fits), so_far.bytes); short = (tt, so_far.short) }
 
 pub plain_host : (e : History) (bytes : List ℕ) → IsBytes bytes → length bytes ≤ 65568 → IsPlain e → IsPlain (e ▹ Host bytes)
-plain_host e bytes are few so_far = record { bytes = (are, so_far.bytes); short = (few, so_far.short); hintless = so_far.hintless }
+plain_host e bytes are few so_far = record { bytes = (are, so_far.bytes); short = (few, so_far.short) }
 
 pub plain_reset : (e : History) → IsPlain e → IsPlain (e ▹ Reset)
-plain_reset e so_far = record { bytes = (tt, so_far.bytes); short = (tt, so_far.short); hintless = so_far.hintless }
+plain_reset e so_far = record { bytes = (tt, so_far.bytes); short = (tt, so_far.short) }
 
 -- the events of one step are plain
 plain_place : (e : History) (moved : Option Place) → ((p : Place) → moved ≡ Some p → (p.lun < 2 ^ 8) × (p.lba < 2 ^ 32)) → IsPlain e → IsPlain (followed_by e (moved_events moved))

@@ -1,5 +1,5 @@
 -- What UPIUs of the host and resets lead to.
-use Rattle.std.proofs.Common.{◌≡◌, ℕ, ◌-◌, ◌*◌, ◌^◌, ◌≤◌, min, Bool, true, false, ◌&&◌, List, ◌∷◌, ◌++◌, length, Option, refl, sym, ◌∙◌, ap, subst, arith, inl, inr}
+use Rattle.std.proofs.Common.{◌≡◌, ℕ, ◌*◌, ◌≤◌, Bool, true, false, ◌&&◌, List, ◌∷◌, ◌++◌, length, Option, refl, sym, ◌∙◌, ap, subst, arith, inl, inr}
 use Rattle.std.proofs.lemmas.Bool.{false≢true}
 use Rattle.std.proofs.lemmas.List.{append_assoc, append-nil}
 use Rattle.std.specs.Prelude.{flat_map}
@@ -18,14 +18,15 @@ use Rattle.flat_unit.specs.Sound.{answers_to, owed}
 use Rattle.flat_unit.specs.Stands.{First}
 use Rattle.flat_unit.specs.Task.{Task}
 use Rattle.flat_unit.specs.Trace.{Upiu, ResetLine}
-use Rattle.flat_unit.specs.Writes.{moves}
 use Rattle.flat_unit.proofs.History.{print-▹}
-use Rattle.flat_unit.proofs.replies.NeverGood.{answer_hintless}
 use Rattle.hex.specs.Hex.{IsBytes}
 use Rattle.hpb_device.specs.declared.device.Sent.{Sent}
 use Rattle.hpb_device.specs.declared.device.Sent.TheVariants.{Nothing, Upiu as UpiuSent}
 use Rattle.hpb_device.specs.Calls.{Receives, reset_of}
+use Rattle.hpb_device.specs.Counted.{CountsStand}
 use Rattle.hpb_device.specs.Entries.{EntriesStand}
+use Rattle.hpb_device.specs.Regions.{HintsStand, KeepsHistory}
+use Rattle.trace_replay.proofs.Counts.{answered_alone, received_alone, reset_alone}
 use Rattle.hpb_device.specs.Keeps.{KeepsTasks}
 use Rattle.hpb_device.specs.Listed.{ListingStands}
 use Rattle.hpb_device.specs.Standing.{DeviceStands, DeviceStandsForeign, answer_events, first_of, sizes_of}
@@ -36,7 +37,7 @@ use Rattle.trace_replay.specs.Moments.{Leads, OwnStanding, Standing, pages_in}
 use Rattle.trace_replay.specs.Transcript.{IsUnready, SendsUnready, has_page}
 use Rattle.trace_replay.specs.Writes.{HasWrittenUpTo}
 use Rattle.trace_replay.proofs.Plain.{IsPlainUpiu, plain_answer, plain_host, plain_reset}
-use Rattle.trace_replay.proofs.Standing.{events_gathered, tracked}
+use Rattle.trace_replay.proofs.Standing.{events_gathered, tracked, keeps_history}
 use Rattle.trace_replay.proofs.Written.{gathers_more}
 
 -- the lines of bytes and of what answers them
@@ -60,6 +61,8 @@ pub record Received (old new : DeviceState) (bytes out : List ℕ) (sent : Sent)
   pub entries : (e : History) → EntriesStand old e → EntriesStand new (followed_by (e ▹ Host bytes) (answer_events sent out))
   pub listings : (had : Place → Bool) (pages : ℕ) (first : First) (e : History) → DeviceStands old first e → ListingStands had pages old e
       → ListingStands had pages new (followed_by (e ▹ Host bytes) (answer_events sent out))
+  pub counted : (first : First) (e : History) → DeviceStands old first e → CountsStand old e → CountsStand new (followed_by (e ▹ Host bytes) (answer_events sent out))
+  pub hints : (e : History) → KeepsHistory old e → HintsStand old e → HintsStand new (followed_by (e ▹ Host bytes) (answer_events sent out))
   pub bytes_are : IsBytes bytes
   pub few : length bytes ≤ 65568
   pub room : sent ≡ UpiuSent → IsBytes out × (length out ≤ 4128)
@@ -79,20 +82,11 @@ answers_of start old new bytes out sent p at received =
 -- what the device sends at once is plain
 answer_upiu : (start old new : DeviceState) (bytes out : List ℕ) (sent : Sent) (p : Progress) → Standing start old p → Received old new bytes out sent → sent ≡ UpiuSent → IsPlainUpiu out
 answer_upiu start old new bytes out sent p at received sends =
-    let answers = answers_of start old new bytes out sent p at received ∙ ap (λ (x : Sent). answer_events x out) sends in
-    record {
-      bytes_are = (received.room sends).0;
-      short = (received.room sends).1;
-      hintless = answer_hintless (sizes_of start) (on_after p.events) (tasks_at (sizes_of start) p) bytes out refl refl answers;
-    }
+    record { bytes_are = (received.room sends).0; short = (received.room sends).1 }
 
 answers_fail_nothing : (e : History) (sent : Sent) (out : List ℕ) → failures (followed_by e (answer_events sent out)) ≡ failures e
 answers_fail_nothing e Nothing out = refl
 answers_fail_nothing e UpiuSent out = refl
-
-answers_move_nothing : (e : History) (sent : Sent) (out : List ℕ) → moves (followed_by e (answer_events sent out)) ≡ moves e
-answers_move_nothing e Nothing out = refl
-answers_move_nothing e UpiuSent out = refl
 
 -- an answer is owed
 owed_answer : (s : Sizes) (e : History) (sent : Sent) (out : List ℕ) → owed s e ≡ answer_events sent out → SendsUnready s e → SendsUnready s (followed_by e (answer_events sent out))
@@ -134,6 +128,8 @@ told_leads start old new before w gathered gathered_now bytes out sent p at got 
       standing = record {
         some_page = at.some_page;
         sizes = same_sizes old new got.store got.shape ∙ at.sizes;
+        shape = got.shape ∙ at.shape;
+        hints = rw events (got.hints p.events (keeps_history start old p at) at.hints);
         same = rw got.store at.same;
         faults = rw (events, got.store) (record {
           least = rw (answers_fail_nothing (p.events ▹ Host bytes) sent out) at.faults.least;
@@ -143,7 +139,6 @@ told_leads start old new before w gathered gathered_now bytes out sent p at got 
         lacking = tt;
         quiet = rw (got.store) at.quiet;
         steps = rw (got.counts) at.steps;
-        moved = rw (events, got.counts) (at.moved ∙ ap (λ (n : ℕ). min n (2 ^ 64 - 1)) (sym (answers_move_nothing (p.events ▹ Host bytes) sent out)));
         ready = λ served. ap (λ (z : StoreState). z.phase) got.store ∙ at.ready served;
         collected = λ ready some. absurd (omega (arith, some));
         chip = elim at.chip [
@@ -152,11 +147,13 @@ told_leads start old new before w gathered gathered_now bytes out sent p at got 
             stands = rw events (got.stands (first_of start) p.events own.stands);
             entries = rw events (got.entries p.events own.entries);
             listings = rw events (got.listings (has_page start.store.pages) (pages_in start) (first_of start) p.events own.stands own.listings);
+            counted = rw events (got.counted (first_of start) p.events own.stands own.counted);
             tried = told_tried start old new bytes out sent p at own got events;
           })
           | inr foreign ↦ inr (record {
             stands = λ first. rw events (got.foreign start.store.pages first p.events (foreign.stands first));
             unready = rw events (owed_answer s (p.events ▹ Host bytes) sent out answers foreign.unready);
+            counted = rw (events, got.counts) (answered_alone s (p.events ▹ Host bytes) sent out old.counts answers (received_alone s p.events bytes old.counts foreign.counted));
             untried = still_untried p.tried (keeps_head (tasks_at s p) (tasks_after s (told s p bytes))) foreign.untried;
           })
         ];
@@ -179,6 +176,8 @@ pub record WasReset (old new : DeviceState) : Type 0 where
   pub foreign : (chip : List Page) (first : First) (e : History) → DeviceStandsForeign old chip first e → DeviceStandsForeign new chip first (e ▹ Reset)
   pub entries : (e : History) → EntriesStand old e → EntriesStand new (e ▹ Reset)
   pub listings : (had : Place → Bool) (pages : ℕ) (e : History) → ListingStands had pages old e → ListingStands had pages new (e ▹ Reset)
+  pub counted : (e : History) → CountsStand old e → CountsStand new (e ▹ Reset)
+  pub hints : (e : History) → HintsStand old e → HintsStand new (e ▹ Reset)
 
 reset_standing : (start old new : DeviceState) (p : Progress) → WasReset old new → Standing start old p → Standing start new (reset p)
 reset_standing start old new p is at =
@@ -186,13 +185,14 @@ reset_standing start old new p is at =
     record {
       some_page = at.some_page;
       sizes = ap sizes_of is.reset ∙ at.sizes;
+      shape = ap (λ (x : DeviceState). x.shape) is.reset ∙ at.shape;
+      hints = is.hints p.events at.hints;
       same = rw (is.reset) (record { geometry = at.same.geometry; luns = at.same.luns; units = at.same.units });
       faults = rw (is.reset) (record { least = at.faults.least; most = at.faults.most });
       plain = plain_reset p.events at.plain;
       lacking = tt;
       quiet = rw (is.reset) (omega (arith, blocks));
       steps = rw (is.reset) at.steps;
-      moved = rw (is.reset) at.moved;
       ready = λ served. absurd (false≢true served);
       collected = λ ready some. absurd (omega (arith, some));
       chip = elim at.chip [
@@ -201,11 +201,13 @@ reset_standing start old new p is at =
           stands = is.stands (first_of start) p.events own.stands;
           entries = is.entries p.events own.entries;
           listings = is.listings (has_page start.store.pages) (pages_in start) p.events own.listings;
+          counted = is.counted p.events own.counted;
           tried = λ tried. absurd (false≢true tried);
         })
         | inr foreign ↦ inr (record {
           stands = λ first. is.foreign start.store.pages first p.events (foreign.stands first);
           unready = foreign.unready;
+          counted = rw (is.reset) (reset_alone (sizes_of start) p.events old.counts foreign.counted);
           untried = refl;
         })
       ];

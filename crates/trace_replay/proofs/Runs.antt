@@ -9,6 +9,9 @@ use Rattle.flat_unit.proofs.contents.ReadsEnd.{drains_end_reads}
 use Rattle.flat_unit.specs.Sizes.{Sizes}
 use Rattle.flat_unit.specs.Trace.{Line}
 use Rattle.flat_unit.proofs.History.{replays_more}
+use Rattle.hpb_device.specs.Counted.{CountsStand}
+use Rattle.hpb_device.specs.Regions.{HintsStand}
+use Rattle.trace_replay.proofs.Counts.{begins_alone}
 use Rattle.hpb_device.specs.Standing.{first_of, sizes_of}
 use Rattle.hpb_device.specs.declared.counts.Counts.{Counts}
 use Rattle.hpb_device.specs.Counts.{no_counts}
@@ -37,23 +40,24 @@ takes_more left [] mid now text same line takes = (now, line, subst (λ (from : 
 takes_more left (t ∷ texts) mid now text taken line takes = (taken.0, taken.1, taken.2, takes_more taken.0 texts mid now text taken.3 line takes)
 
 -- the chip that a device begins with is sound, or it isn't
-begins_chip : (start : DeviceState) → start.tasks ≡ [] → start.counts ≡ no_counts → OwnStanding start start begun ⊎ ForeignStanding start start begun
-begins_chip start none uncounted = elim (sound_or_not start.store.geometry start.store.luns start.store.units start.store.pages) [
+begins_chip : (start : DeviceState) → start.tasks ≡ [] → start.counts ≡ no_counts → CountsStand start [] → OwnStanding start start begun ⊎ ForeignStanding start start begun
+begins_chip start none uncounted counted = elim (sound_or_not start.store.geometry start.store.luns start.store.units start.store.pages) [
   | inl sound ↦ inl (record {
     was = sound;
     stands = begins_standing start none (ap (λ (c : Counts). c.erased) uncounted) sound;
     entries = begins_entries start none;
     listings = begins_listings start none;
+    counted = counted;
     tried = λ is. absurd (false≢true is);
   })
-  | inr unsound ↦ inr (record { stands = λ first. begins_foreign start first none unsound; unready = tt; untried = refl })
+  | inr unsound ↦ inr (record { stands = λ first. begins_foreign start first none unsound; unready = tt; counted = begins_alone (sizes_of start) start.counts uncounted; untried = refl })
 ]
 
-pub ran_begins : (start : DeviceState) (left w : Option (List ℕ)) (gathered : List ℕ) → start.tasks ≡ [] → start.counts ≡ no_counts → start.store.scanned ≡ 0
+pub ran_begins : (start : DeviceState) (left w : Option (List ℕ)) (gathered : List ℕ) → start.tasks ≡ [] → start.counts ≡ no_counts → HintsStand start [] → CountsStand start [] → start.store.scanned ≡ 0
     → Rattle.std.proofs.Common.◌≤◌ 1 start.store.geometry.pages → gathered ≡ []
     → Ran (sizes_of start) left left 0 (StandsAndPrinted start start w w gathered)
 unfolding print
-ran_begins start left w gathered none uncounted scanned some fresh = record {
+ran_begins start left w gathered none uncounted hints counted scanned some fresh = record {
   texts = [];
   lines = [];
   moment = begun;
@@ -66,16 +70,17 @@ ran_begins start left w gathered none uncounted scanned some fresh = record {
     record {
       some_page = some;
       sizes = refl;
+      shape = refl;
+      hints = hints;
       same = record { geometry = refl; luns = refl; units = refl };
       faults = record { least = omega arith; most = omega arith };
-      plain = record { bytes = tt; short = tt; hintless = tt };
+      plain = record { bytes = tt; short = tt };
       lacking = tt;
       quiet = omega (arith, scanned);
       steps = let none_made : start.counts.steps ≡ 0 = ap (λ (c : Counts). c.steps) uncounted in omega (arith, none_made);
-      moved = ap (λ (c : Counts). c.moved) uncounted;
       ready = λ served. absurd (false≢true served);
       collected = λ ready more. absurd (omega (arith, more));
-      chip = begins_chip start none uncounted;
+      chip = begins_chip start none uncounted counted;
     },
     rw fresh (nothing_yet w []),
   );

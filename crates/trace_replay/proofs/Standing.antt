@@ -1,5 +1,5 @@
 -- A step of the device leads from where it stands to where it stands then.
-use Rattle.std.proofs.Common.{◌≡◌, ◌⊎◌, ℕ, ◌+◌, ◌-◌, ◌^◌, ◌<◌, ◌≤◌, min, Bool, true, false, not, ◌&&◌, ◌||◌, nat_le, List, [], ◌∷◌, ◌++◌, length, Option, Some, None, refl, sym, ◌∙◌, ap, subst, arith, inl, inr}
+use Rattle.std.proofs.Common.{◌≡◌, ◌⊎◌, ℕ, ◌+◌, ◌-◌, ◌^◌, ◌<◌, ◌≤◌, Bool, true, false, not, ◌&&◌, ◌||◌, nat_le, List, [], ◌∷◌, ◌++◌, length, Option, Some, None, refl, sym, ◌∙◌, ap, subst, arith, inl, inr}
 use Rattle.std.proofs.lemmas.Bool.{cases_lt, false≢true}
 use Rattle.std.proofs.lemmas.Bool.Decides.{nat_tests}
 use Rattle.std.specs.Prelude.{flat_map, is_none, is_some, IsTrue, if◌then◌else◌}
@@ -14,7 +14,6 @@ use Rattle.flat_unit.specs.Replays.{OpenRun, Progress, Group, IsGroup, StepTo, e
 use Rattle.flat_unit.specs.Sizes.{Sizes}
 use Rattle.flat_unit.specs.Stands.{First}
 use Rattle.flat_unit.specs.Task.{Task}
-use Rattle.flat_unit.specs.Writes.{moves}
 use Rattle.flash_pages.specs.Chip.{Page}
 use Rattle.flash_pages.specs.Place.{Place}
 use Rattle.flat_unit.specs.Trace.{Blank}
@@ -32,17 +31,18 @@ use Rattle.hpb_device.proofs.Silence.{going_was_silent, tries_has_entry, tries_w
 use Rattle.hpb_device.specs.Keeps.{KeepsTasks}
 use Rattle.hpb_device.specs.Standing.{DeviceStands, DeviceStandsForeign, first_of, group_of, sizes_of}
 use Rattle.hpb_device.specs.State.{DeviceState, AreAtRest, AtRest, IsIdleIn, IsSound}
-use Rattle.hpb_device.proofs.Going.{going_fails, going_group, going_is_silent, going_keeps_no_write, going_moves_counted, going_rests, going_same, going_scanned, going_scans, going_serves, going_sizes, going_stays_ready, going_steps_counted, going_tasks, going_unready, going_unscanned, keeps_no_write, no_task_rests, refusing_goes, refusing_sends}
+use Rattle.hpb_device.proofs.Going.{going_counts_step, going_fails, going_group, going_is_silent, going_keeps_no_write, going_rests, going_same, going_scanned, going_scans, going_serves, going_sizes, going_stays_ready, going_steps_counted, going_tasks, going_unready, going_unscanned, keeps_no_write, no_task_rests, refusing_goes, refusing_sends}
 use Rattle.hpb_device.proofs.Left.{few_kept}
+use Rattle.hpb_device.specs.Counted.{CountsStand}
 use Rattle.hpb_device.specs.Entries.{EntriesStand}
+use Rattle.hpb_device.specs.Regions.{HintsStand, KeepsHistory}
 use Rattle.hpb_device.specs.Listed.{ListingStands}
 use Rattle.hex.specs.Hex.{IsBytes}
 use Rattle.trace_replay.specs.Moments.{ForeignStanding, LacksEnough, Leads, OwnStanding, Standing, pages_in}
 use Rattle.trace_replay.specs.Transcript.{IsPlain, has_page}
 use Rattle.trace_replay.specs.Writes.{HasWrittenUpTo}
 use Rattle.flat_unit.specs.Replays.{LineTo}
-use Rattle.hpb_device.proofs.Hintless.{going_hints_none}
-use Rattle.trace_replay.proofs.Counts.{moves-followed_by, serves_some, unready_group}
+use Rattle.trace_replay.proofs.Counts.{serves_some, stepped_alone, unready_group}
 use Rattle.trace_replay.proofs.Plain.{place_of_step, plain_group, upiu_of_step}
 use Rattle.trace_replay.proofs.Written.{gathers_more}
 
@@ -78,6 +78,12 @@ tracked start now p at = elim at.chip [
       }
 ]
 
+-- so is what the regions are judged by
+pub keeps_history : (start now : DeviceState) (p : Progress) → Standing start now p → KeepsHistory now p.events
+keeps_history start now p at =
+    let t = tracked start now p at in
+    record { tasks = t.tasks; keeps = t.keeps; same = ap (λ (s : Sizes). tasks_after s p.events) at.sizes ∙ t.kept; on = t.on }
+
 -- a step of a device that has something to do
 pub record Stepping (old new : DeviceState) (r : Stepped) (out : List ℕ) : Type 0 where
   pub stands : (first : First) (e : History) → DeviceStands old first e → DeviceStands new first (followed_by e (events_of (group_of r out)))
@@ -89,6 +95,8 @@ pub record Stepping (old new : DeviceState) (r : Stepped) (out : List ℕ) : Typ
   pub entries : (first : First) (e : History) → DeviceStands old first e → EntriesStand old e → EntriesStand new (followed_by e (events_of (group_of r out)))
   pub listings : (had : Place → Bool) (pages : ℕ) (first : First) (e : History) → DeviceStands old first e → ListingStands had pages old e
       → ListingStands had pages new (followed_by e (events_of (group_of r out)))
+  pub counted : (first : First) (e : History) → DeviceStands old first e → EntriesStand old e → CountsStand old e → CountsStand new (followed_by e (events_of (group_of r out)))
+  pub hints : (e : History) → KeepsHistory old e → HintsStand old e → HintsStand new (followed_by e (events_of (group_of r out)))
   pub room : r.sent ≡ true → IsBytes out × (length out ≤ 4128)
   pub small : (place : ℕ × ℕ) → r.moved ≡ Some place → (place.0 < 2 ^ 8) × (place.1 < 2 ^ 32)
 
@@ -209,7 +217,6 @@ step_plain start old new m r out at step =
     (λ bytes is. upiu_of_step r.sent out bytes (λ sends. record {
       bytes_are = (step.room sends).0;
       short = (step.room sends).1;
-      hintless = going_hints_none old.store.phase old new r out step.steps sends;
     }) is) at.plain
 
 -- what follows from what is said of each run
@@ -291,6 +298,7 @@ step_own start old new m r out at step own = record {
   stands = step.stands (first_of start) m.events own.stands;
   entries = step.entries (first_of start) m.events own.stands own.entries;
   listings = step.listings (has_page start.store.pages) (pages_in start) (first_of start) m.events own.stands own.listings;
+  counted = step.counted (first_of start) m.events own.stands own.entries own.counted;
   tried = λ is. going_was_silent old.store.phase old new r out step.steps step.busy (not_sent r out r.sent refl (sent_none (group_of r out).sent _ is))
       (tried_before start old m at own.tried (sent_tried (group_of r out).sent _ is));
 }
@@ -305,23 +313,24 @@ step_foreign start old new m r out at step foreign =
           let sent = bytes_of_step r out bytes sends in
           ap sense_code (sym sent.1) ∙ going_unready old.store.phase old new r out step.steps here.unsound sent.0)
           (record { unready = foreign.unready; nothing_owed = subst (λ (s : Sizes). Rattle.flat_unit.specs.Sound.owed s m.events ≡ []) at.sizes here.stands.sound.nothing_owed });
+      counted = stepped_alone (sizes_of start) m.events r.failed (group_of r out).moved (group_of r out).sent old.counts new.counts (going_counts_step old.store.phase old new r out step.steps here.unsound) foreign.counted;
       untried = never_tried start old new m r out at step foreign;
     }
 
 pub step_standing : (start old new : DeviceState) (m : Progress) (r : Stepped) (out : List ℕ) → Standing start old m → Stepping old new r out → Standing start new (after_step start m r out)
 step_standing start old new m r out at step =
     let made = going_steps_counted old.store.phase old new r out step.steps in
-    let added = moves-followed_by m.events (events_of (group_of r out)) in
     record {
       some_page = at.some_page;
       sizes = going_sizes old.store.phase old new r out step.steps step.shape ∙ at.sizes;
+      shape = step.shape ∙ at.shape;
       same = same_since start.store old.store new.store at.same (going_same old.store.phase old new r out step.steps);
       faults = failures_are-followed_by start.store.faults old.store.faults new.store.faults m.events (events_of (group_of r out)) at.faults (going_fails old.store.phase old new r out step.steps);
       plain = step_plain start old new m r out at step;
+      hints = step.hints m.events (keeps_history start old m at) at.hints;
       lacking = all_weaker (LacksEnough old) (LacksEnough new) m.runs (λ run lacks. still_lacks old new r out run step lacks) at.lacking;
       quiet = quiet_after (pages_in start) m.quiet (unscanned old) (unscanned new) (is_none r.failed) at.quiet (going_unscanned old.store.phase old new r out step.steps);
       steps = omega (arith, at.steps, made);
-      moved = going_moves_counted old.store.phase old new r out (moves m.events) step.steps at.moved ∙ ap (λ (n : ℕ). min n (2 ^ 64 - 1)) (sym added);
       ready = stays_ready start old new m r out at step;
       collected = λ is some. absurd (omega (arith, some));
       chip = elim at.chip [
@@ -343,18 +352,19 @@ pub with_runs : (start now : DeviceState) (p : Progress) (runs : List OpenRun) �
 with_runs start now p runs at lacking = record {
   some_page = at.some_page;
   sizes = at.sizes;
+  shape = at.shape;
   same = at.same;
   faults = at.faults;
   plain = at.plain;
+  hints = at.hints;
   lacking = lacking;
   quiet = at.quiet;
   steps = at.steps;
-  moved = at.moved;
   ready = at.ready;
   collected = at.collected;
   chip = elim at.chip [
-    | inl own ↦ inl (record { was = own.was; stands = own.stands; entries = own.entries; listings = own.listings; tried = own.tried })
-    | inr foreign ↦ inr (record { stands = foreign.stands; unready = foreign.unready; untried = foreign.untried })
+    | inl own ↦ inl (record { was = own.was; stands = own.stands; entries = own.entries; listings = own.listings; counted = own.counted; tried = own.tried })
+    | inr foreign ↦ inr (record { stands = foreign.stands; unready = foreign.unready; counted = foreign.counted; untried = foreign.untried })
   ];
 }
 
@@ -391,9 +401,11 @@ pub stepping_of : (old new : DeviceState) (r : Stepped) (out : List ℕ)
     → ((first : First) (e : History) → DeviceStands old first e → EntriesStand old e → EntriesStand new (followed_by e (events_of (group_of r out))))
     → ((had : Place → Bool) (pages : ℕ) (first : First) (e : History) → DeviceStands old first e → ListingStands had pages old e
     → ListingStands had pages new (followed_by e (events_of (group_of r out))))
+    → ((first : First) (e : History) → DeviceStands old first e → EntriesStand old e → CountsStand old e → CountsStand new (followed_by e (events_of (group_of r out))))
+    → ((e : History) → KeepsHistory old e → HintsStand old e → HintsStand new (followed_by e (events_of (group_of r out))))
     → (IsTrue r.idle → ⊥) → (IsIdleIn old.store.phase old.tasks → IsTrue r.idle) → OnFalse r.idle (StepsIn old.store.phase old new r out) → OnFalse r.idle (LeavesFewer old new r)
     → new.shape ≡ old.shape → (r.sent ≡ true → IsBytes out × (length out ≤ 4128)) → ((place : ℕ × ℕ) → r.moved ≡ Some place → (place.0 < 2 ^ 8) × (place.1 < 2 ^ 32)) → Stepping old new r out
-stepping_of old new r out stands foreign entries listings busy idle steps fewer shape room small = record {
+stepping_of old new r out stands foreign entries listings counted hints busy idle steps fewer shape room small = record {
   stands = stands;
   foreign = foreign;
   busy = λ is. busy (idle is);
@@ -402,6 +414,8 @@ stepping_of old new r out stands foreign entries listings busy idle steps fewer 
   shape = shape;
   entries = entries;
   listings = listings;
+  counted = counted;
+  hints = hints;
   room = room;
   small = small;
 }

@@ -26,15 +26,18 @@ use Rattle.hpb_device.specs.Sizes.{sizes}
 use Rattle.hpb_device.specs.Standing.{first_of, kept_of, sizes_of}
 use Rattle.hpb_device.specs.declared.counts.Counts.{Counts}
 use Rattle.hpb_device.specs.Advance.{IsSameStore}
-use Rattle.hpb_device.specs.State.{DeviceState}
-use Rattle.trace_replay.specs.Moments.{ForeignStanding, HasCollected, OwnStanding, Standing, pages_in}
+use Rattle.hpb_device.specs.State.{DeviceState, IsSound}
+use Rattle.trace_replay.specs.Moments.{AreCountsOf, ForeignStanding, HasCollected, OwnStanding, Standing, pages_in}
 use Rattle.flash_store.specs.Index.{CanServe}
 use Rattle.region_state.specs.Shape.{IsWithinLimits}
 use Rattle.trace_replay.specs.Options.{cut_shape}
 use Rattle.trace_replay.specs.Run.{IsNamed, IsPlanned, ProgramIs, RunIs, geometry_text}
 use Rattle.trace_replay.specs.Writes.{AppendsFront}
 use Rattle.trace_replay.specs.Showing.{ShowIs, ShowProgramIs}
-use Rattle.trace_replay.specs.Transcript.{AreCounts, HasNoMore, IsChipOf, IsRefused, IsServed, IsTranscript, SendsUnready, has_page, sizes_on, unit_on}
+use Rattle.flat_unit.specs.Counts.{Counted}
+use Rattle.flat_unit.specs.Hints.{Hinted}
+use Rattle.hpb_device.proofs.CountingCalls.{counted_of}
+use Rattle.trace_replay.specs.Transcript.{AreCounts, AreCountsOn, FitTranscript, HasNoMore, IsChipOf, IsRefused, IsServed, IsTranscript, SendsUnready, has_page, sizes_on, unit_on}
 use Rattle.trace_replay.specs.Words.{IsReplay, named_chip, named_unit}
 use Rattle.region_state.specs.declared.shape.Shape.{Shape}
 use Rattle.trace_replay.specs.declared.status.Status.{Status}
@@ -139,6 +142,8 @@ module _ (start device : DeviceState) (shape : Shape) (geometry : Geometry) (pag
   standing_transcript : (p : Progress) → Standing start device p → IsTranscript shape geometry faults device.store.faults pages device.store.pages p
   standing_transcript p at = record {
     plain = at.plain;
+    hinted = subst (λ (s : Sizes). Hinted shape s p.events) (at.sizes ∙ fresh_sizes)
+        (subst (λ (sh : Shape). Hinted sh (sizes_of device) p.events) (at.shape ∙ fresh.shape_is) at.hints.hinted);
     failures = subst (λ (n : ℕ). FailuresAre n device.store.faults p.events) fresh.faults_are at.faults;
     own = λ sound. elim at.chip [
       | inl own ↦ served p at own
@@ -162,6 +167,35 @@ pub left_transcript : (start now : DeviceState) (shape : Shape) (geometry : Geom
     → IsTranscript shape geometry faults faults_back pages back p
 left_transcript start now shape geometry pages back faults faults_back p fresh is_back is_faults at =
     rw (is_back, is_faults) (standing_transcript start now shape geometry pages faults fresh p at)
+
+-- the counts of a device, by its chip at first
+pub counts_of : (start now : DeviceState) (p : Progress) → Standing start now p → AreCountsOf start p now.counts
+counts_of start now p at = record {
+  steps = at.steps;
+  fit = λ sound. elim at.chip [
+    | inl own ↦ fit_of own
+    | inr foreign ↦ absurd (was_unsound foreign sound)
+  ];
+  alone = λ unsound. elim at.chip [
+    | inl own ↦ absurd (unsound own.was)
+    | inr foreign ↦ foreign.counted
+  ];
+}
+  where
+    fit_of : OwnStanding start now p → FitTranscript (sizes_of start) (pages_in start) start.store.geometry.pages (erased_count start.store.pages) p.events now.counts
+    fit_of own =
+        let told = counted_of now (first_of start) p.events own.stands own.counted in (
+          told.0,
+          subst (λ (g : Geometry). Counted (sizes_of start) (g.blocks * g.pages) g.pages (erased_count start.store.pages) p.events told.0) at.same.geometry
+              (subst (λ (s : Sizes). Counted s (pages_in now) now.store.geometry.pages (erased_count start.store.pages) p.events told.0) at.sizes told.1),
+          told.2,
+        )
+
+    was_unsound : ForeignStanding start now p → IsSound start → ⊥
+    was_unsound foreign sound =
+        let here = foreign.stands (first_of start) in
+        let back : chip_of start ≡ chip_of now = λ i. record { geometry = sym at.same.geometry i; luns = sym at.same.luns i; units = sym at.same.units i; pages = sym here.stays i } in
+        here.unsound (subst (λ (c : OnChip). ChipOk c.geometry c.luns c.units c.pages) back sound)
 
 -- what is said of the events may be weakened
 pub run_shows : (s : Sizes) (good better : Progress → Type 0) (counted : Progress → Counts → Type 0) (left left_now w w_now : Option (List ℕ)) (limit : ℕ) (status : Status) → ((p : Progress) → good p → better p)
@@ -206,16 +240,22 @@ program_of words geometry good counted same left left_now w w_now limit (BadCapt
 -- the promise of a run, in terms of the chip
 pub run_of_chip : (words : List (List ℕ)) (geometry : Geometry) (start now : DeviceState) (pages back : List Page) (faults faults_back : ℕ) (same : Type 0) (left left_now w w_now : Option (List ℕ)) (held : List ℕ) (limit : ℕ) (status : Status)
     → IsPlanned words geometry → IsFresh start (named_unit words) geometry pages faults → held ≡ [] → back ≡ now.store.pages → faults_back ≡ now.store.faults
-    → RunIs (sizes_of start) (Standing start now) AreCounts (prepend_known held left) left_now w w_now limit status
-    → ProgramIs words geometry (IsTranscript (named_unit words) geometry faults faults_back pages back) AreCounts same left left_now w w_now limit status
+    → RunIs (sizes_of start) (Standing start now) (AreCountsOf start) (prepend_known held left) left_now w w_now limit status
+    → ProgramIs words geometry (IsTranscript (named_unit words) geometry faults faults_back pages back) (AreCountsOn (named_unit words) geometry pages) same left left_now w w_now limit status
 run_of_chip words geometry start now pages back faults faults_back same left left_now w w_now held limit status planned fresh none is_back is_faults run =
     let good : Progress → Type 0 = IsTranscript (named_unit words) geometry faults faults_back pages back in
     let from : prepend_known held left ≡ left = ap (λ (l : List ℕ). prepend_known l left) none ∙ prepend_known-nil left in
-    let run1 : RunIs (sizes_on (named_unit words) geometry) (Standing start now) AreCounts left left_now w w_now limit status =
-    subst (λ (s : Sizes). RunIs s (Standing start now) AreCounts left left_now w w_now limit status) (fresh_sizes start now (named_unit words) geometry pages faults fresh)
-    (subst (λ (l : Option (List ℕ)). RunIs (sizes_of start) (Standing start now) AreCounts l left_now w w_now limit status) from run) in
-    program_of words geometry good AreCounts same left left_now w w_now limit status planned
-    (run_shows (sizes_on (named_unit words) geometry) (Standing start now) good AreCounts left left_now w w_now limit status
+    let unit = named_unit words in
+    let counts = AreCountsOn unit geometry pages in
+    let there : OnChip = named_on unit geometry pages in
+    let sized : Sizes → (OnChip → Progress → Counts → Type 0) = λ s c. AreCounts s (c.geometry.blocks * c.geometry.pages) c.geometry.pages (erased_count c.pages) (ChipOk c.geometry c.luns c.units c.pages) in
+    let run0 : RunIs (sizes_of start) (Standing start now) (sized (sizes_of start) there) left left_now w w_now limit status =
+    subst (λ (c : OnChip). RunIs (sizes_of start) (Standing start now) (sized (sizes_of start) c) left left_now w w_now limit status) (start_chip start now unit geometry pages faults fresh)
+    (subst (λ (l : Option (List ℕ)). RunIs (sizes_of start) (Standing start now) (AreCountsOf start) l left_now w w_now limit status) from run) in
+    let run1 : RunIs (sizes_on unit geometry) (Standing start now) counts left left_now w w_now limit status =
+    subst (λ (s : Sizes). RunIs s (Standing start now) (sized s there) left left_now w w_now limit status) (fresh_sizes start now unit geometry pages faults fresh) run0 in
+    program_of words geometry good counts same left left_now w w_now limit status planned
+    (run_shows (sizes_on (named_unit words) geometry) (Standing start now) good counts left left_now w w_now limit status
     (λ p at. left_transcript start now (named_unit words) geometry pages back faults faults_back p fresh is_back is_faults at) run1)
 
 -- what was shown of a text that comes from a source alone

@@ -1,7 +1,7 @@
 -- What a run promises of the events that it prints, and of the chip that it hands back.
 use Rattle.std.specs.Prelude.{⊤, ◌≡◌, ◌⊎◌, ℕ, ◌*◌, ◌^◌, ◌-◌, ◌≤◌, Bool, true, is_some, min, List, [], ◌∷◌, Contains, Some}
 use Rattle.flash_pages.specs.declared.chip.Geometry.{Geometry}
-use Rattle.flash_pages.specs.Chip.{Page}
+use Rattle.flash_pages.specs.Chip.{Page, erased_count}
 use Rattle.flash_pages.specs.Place.{Place, IsPlace}
 use Rattle.flash_pages.specs.Sound.{ChipOk}
 use Rattle.flash_pages.specs.Unit.{current, unit_of, next_seq}
@@ -10,17 +10,18 @@ use Rattle.region_state.specs.declared.shape.Shape.{Shape}
 use Rattle.flat_unit.specs.declared.event.Event.{Event}
 use Rattle.flat_unit.specs.declared.event.Event.TheVariants.{Device, Reset}
 use Rattle.flat_unit.specs.Causes.{Caused, FailuresAre, sense_code}
+use Rattle.flat_unit.specs.Counts.{Counts as Exact, Counted, sends}
 use Rattle.flat_unit.specs.Contents.{Block, block_at, candidates}
 use Rattle.flat_unit.specs.History.{History, ◌▹◌}
 use Rattle.flat_unit.specs.Entries.{Told}
-use Rattle.flat_unit.specs.Hintless.{NeverHints}
+use Rattle.flat_unit.specs.Hints.{Hinted}
 use Rattle.flat_unit.specs.Laws.{AreShort, HaveRoom}
 use Rattle.flat_unit.specs.Pages.{KeepsFresh}
 use Rattle.flat_unit.specs.Replays.{Progress}
 use Rattle.flat_unit.specs.Sizes.{Sizes}
 use Rattle.flat_unit.specs.Sound.{Sound, owed}
-use Rattle.flat_unit.specs.Writes.{moves}
 use Rattle.hpb_device.specs.declared.counts.Counts.{Counts}
+use Rattle.hpb_device.specs.Counted.{AreCut}
 use Rattle.hpb_device.specs.Limits.{limits_of}
 use Rattle.hpb_device.specs.Sizes.{sizes}
 
@@ -36,12 +37,10 @@ unit_on shape chip = unit_of 1 shape.units chip
 abbrev pub IsChipOf : Shape → Geometry → List Page → Type 0
 IsChipOf shape geometry chip = ChipOk geometry 1 shape.units chip
 
--- The bytes of each event are bytes, and no more than a UPIU of its side has, and its numbers have room where they are printed.
--- No GOOD carries a hint, which isn't built yet.
+-- the bytes of each event are bytes, and no more than a UPIU of its side has, and its numbers have room where they are printed
 pub record IsPlain (e : History) : Type 0 where
   pub bytes : HaveRoom e
   pub short : AreShort e
-  pub hintless : NeverHints e
 
 -- whether a place has a page on the chip
 abbrev pub has_page : List Page → Place → Bool
@@ -86,15 +85,34 @@ pub record IsRefused (shape : Shape) (geometry : Geometry) (chip back : List Pag
   pub unready : SendsUnready (sizes_on shape geometry) p.events
   pub stays : back ≡ chip
 
--- The events are plain, the calls of the chip that failed are those that its count tells, and the rest is by the chip.
+-- The events are plain, each GOOD RESPONSE tells what is to be told of the regions, the calls of the chip that failed are those that
+-- its count tells, and the rest is by the chip.
 pub record IsTranscript (shape : Shape) (geometry : Geometry) (faults faults_back : ℕ) (chip back : List Page) (p : Progress) : Type 0 where
   pub plain : IsPlain p.events
+  pub hinted : Hinted shape (sizes_on shape geometry) p.events
   pub failures : FailuresAre faults faults_back p.events
   pub own : IsChipOf shape geometry chip → IsServed shape geometry chip back p
   pub foreign : ¬ IsChipOf shape geometry chip → IsRefused shape geometry chip back p
 
--- The counts at the end of a trace: no more steps were made than its lines let the device make, and as many pages were moved as
--- the events tell.
-pub record AreCounts (p : Progress) (counts : Counts) : Type 0 where
+-- counts that stop at 2^64 - 1 are those of whole numbers that fit the transcript
+abbrev pub FitTranscript : Sizes → (pages per_block free : ℕ) → History → Counts → Type 0
+FitTranscript s pages per_block free e counts = (exact : Exact) × Counted s pages per_block free e exact × AreCut counts exact
+
+-- nothing but steps is counted, at least one for each UPIU that a step sent
+pub record CountStepsAlone (s : Sizes) (e : History) (counts : Counts) : Type 0 where
+  pub steps : min (sends s e) (2 ^ 64 - 1) ≤ counts.steps
+  pub lookups : counts.lookups ≡ 0
+  pub entries : counts.entries ≡ 0
+  pub moved : counts.moved ≡ 0
+  pub erased : counts.erased ≡ 0
+
+-- The counts at the end of a trace: no more steps were made than its lines let the device make. Over a sound chip they fit the
+-- transcript, and over any other only steps are counted.
+pub record AreCounts (s : Sizes) (pages per_block free : ℕ) (sound : Type 0) (p : Progress) (counts : Counts) : Type 0 where
   pub steps : counts.steps ≤ p.steps
-  pub moved : counts.moved ≡ min (moves p.events) (2 ^ 64 - 1)
+  pub fit : sound → FitTranscript s pages per_block free p.events counts
+  pub alone : ¬ sound → CountStepsAlone s p.events counts
+
+abbrev pub AreCountsOn : Shape → Geometry → List Page → Progress → Counts → Type 0
+AreCountsOn shape geometry chip =
+    AreCounts (sizes_on shape geometry) (geometry.blocks * geometry.pages) geometry.pages (erased_count chip) (IsChipOf shape geometry chip)

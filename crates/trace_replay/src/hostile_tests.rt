@@ -1,7 +1,7 @@
 //! Hosts and chips that do what they shouldn't: whole runs, whose transcripts are judged by `oracle`.
 use super::*;
 use crate::oracle::counts::Counts;
-use crate::oracle::{Sizes, Verdict, judge};
+use crate::oracle::{Verdict, judge};
 use crate::tests::{Outside, run_words};
 use crate::texts::push_words;
 use flash_pages::Geometry;
@@ -9,12 +9,11 @@ use std::alloc::Global;
 use std::process::Abort;
 use std::test::Fail;
 
-/// A chip, the words that name it, and the sizes of its device.
+/// A chip, and the words that name it.
 #[derive(Clone, Copy)]
 struct Chip {
     geometry: Geometry,
     words: &'static str,
-    sizes: Sizes,
 }
 
 /// The chip of most of these runs, and a small one.
@@ -24,13 +23,6 @@ const CHIP: Chip = Chip {
         pages: 4,
     },
     words: "replay --blocks 8 --pages 4",
-    sizes: Sizes {
-        luns: 1,
-        units: 20,
-        pages: 32,
-        block_pages: 4,
-        is_sound: true,
-    },
 };
 
 const SMALL_CHIP: Chip = Chip {
@@ -39,14 +31,38 @@ const SMALL_CHIP: Chip = Chip {
         pages: 2,
     },
     words: "replay --blocks 5 --pages 2",
-    sizes: Sizes {
-        luns: 1,
-        units: 4,
-        pages: 10,
-        block_pages: 2,
-        is_sound: true,
-    },
 };
+
+/// The chips of the storms: both, and both with small regions, of which the host may hold one or all, and either side
+/// decides which.
+const CHIPS: [Chip; 8] = [
+    CHIP,
+    SMALL_CHIP,
+    Chip {
+        words: "replay --blocks 8 --pages 4 --region 5 --sub 3 --held 1",
+        ..CHIP
+    },
+    Chip {
+        words: "replay --blocks 5 --pages 2 --region 4 --sub 3 --held 1",
+        ..SMALL_CHIP
+    },
+    Chip {
+        words: "replay --blocks 8 --pages 4 --region 6 --sub 4 --held 32",
+        ..CHIP
+    },
+    Chip {
+        words: "replay --blocks 5 --pages 2 --region 3 --sub 3 --held 32",
+        ..SMALL_CHIP
+    },
+    Chip {
+        words: "replay --blocks 8 --pages 4 --region 5 --sub 3 --held 1 --mode host",
+        ..CHIP
+    },
+    Chip {
+        words: "replay --blocks 5 --pages 2 --region 4 --sub 3 --held 32 --mode host",
+        ..SMALL_CHIP
+    },
+];
 
 /// A block is written and read back.
 const ONE_BLOCK: [&str; 6] = [
@@ -159,7 +175,7 @@ fn replay_over(alloc: Global, chip: Chip, trace: &[u8], calls: &[u64]) -> Result
     let Some(text) = ran.printed.strip_suffix(end.as_bytes()) else {
         return Err(Fail::new("the last line isn't that of the status"));
     };
-    let (verdict, counts) = judge(alloc, chip.sizes, text)?;
+    let (verdict, counts) = judge(alloc, chip.words, true, text)?;
     if status == Status::Done && matches!(verdict, Verdict::Sound { .. }) && counts.is_none() {
         return Err(Fail::new("nothing is counted"));
     }
@@ -397,14 +413,14 @@ fn prints(alloc: Global, trace: &[u8], lines: usize) -> Result<bool, Fail> {
 
 #[test]
 fn tasks_have_a_tag_and_room(rt: HostRuntime) -> Result<(), Fail> {
-    let mut trace = Vec::new(rt.alloc());
+    let mut trace = text_of(rt.alloc(), &["R"])?;
     for tag in 0..33u8 {
         let words = format!(in rt.alloc(); "U 014000{tag:02x} z z 00001000 28000000 z 01000000 z")?;
         push_lines(&mut trace, &[words.as_str()])?;
     }
     push_lines(&mut trace, &["D"])?;
-    // 33 commands, TASK SET FULL for the last, and a block and GOOD for each other.
-    assert!(rt; prints(rt.alloc(), &trace, 98)?);
+    // The reset, 33 commands, TASK SET FULL for the last, and a block and GOOD for each other.
+    assert!(rt; prints(rt.alloc(), &trace, 99)?);
     let [write, drain, data, _, read, _] = ONE_BLOCK;
     let same = "U 01400002 z z 00001000 28000000 z 01000000 z";
     for (lines, printed) in [
@@ -509,14 +525,18 @@ fn data_come_in_pieces_and_bursts(rt: HostRuntime) -> Result<(), Fail> {
 fn each_code_is_answered(rt: HostRuntime) -> Result<(), Fail> {
     let mut codes = Vec::new(rt.alloc());
     let mut opcodes = Vec::new(rt.alloc());
+    let mut modes = Vec::new(rt.alloc());
     for code in 0..=255u8 {
         let words = format!(in rt.alloc(); "U {code:02x}0000{code:02x} z z z z z z z")?;
         push_lines(&mut codes, &[words.as_str(), "D"])?;
         let words = format!(in rt.alloc(); "U 010000{code:02x} z z z {code:02x}000000 z z z")?;
         push_lines(&mut opcodes, &[words.as_str(), "D"])?;
+        let words = format!(in rt.alloc(); "U 010000{code:02x} z z z fa{code:02x}0000 z z z")?;
+        push_lines(&mut modes, &[words.as_str(), "D"])?;
     }
     assert!(rt; prints(rt.alloc(), &codes, 512)?);
     assert!(rt; prints(rt.alloc(), &opcodes, 512)?);
+    assert!(rt; prints(rt.alloc(), &modes, 512)?);
     Ok(())
 }
 
@@ -533,6 +553,12 @@ impl Dice {
             .wrapping_add(1_442_695_040_888_963_407);
         let high = (self.0 >> 33) & 0x7FFF_FFFF;
         (high as u32).checked_rem(sides).unwrap_or(0)
+    }
+
+    /// A number below this many, mostly a low one.
+    fn low(&mut self, sides: u32) -> u32 {
+        let first = self.roll(sides);
+        first.min(self.roll(sides))
     }
 
     /// One of three tags.
@@ -554,7 +580,7 @@ fn push_command(
     let lba = if dice.roll(8) == 0 {
         dice.roll(6).saturating_add(16)
     } else {
-        dice.roll(6)
+        dice.low(6)
     };
     let expected = match dice.roll(8) {
         0 => dice.roll(16_384),
@@ -564,6 +590,19 @@ fn push_command(
         "U 01000{lun}{tag:02x} z z {expected:08x} {opcode}00{lba:08x}00{n:04x} 00000000000000"
     )?;
     push_lines(text, &[words.as_str()])
+}
+
+/// Adds four reads of the same blocks, each of which is answered before the next one.
+fn push_reads(text: &mut Vec<u8>, alloc: Global, dice: &mut Dice) -> Result<(), Fail> {
+    let (lba, n) = (dice.low(4), dice.low(3).saturating_add(1));
+    let expected = n.saturating_mul(4096);
+    for tag in 0..4u8 {
+        let words = format!(in alloc;
+            "U 014000{tag:02x} z z {expected:08x} 2800{lba:08x}00{n:04x} 00000000000000"
+        )?;
+        push_lines(text, &[words.as_str(), "D"])?;
+    }
+    Ok(())
 }
 
 /// Adds HPB READ of some blocks, with an entry that may be one of the chip.
@@ -576,19 +615,29 @@ fn push_read_by_entry(text: &mut Vec<u8>, alloc: Global, dice: &mut Dice) -> Res
     push_lines(text, &[words.as_str()])
 }
 
-/// Adds READ BUFFER of all blocks, or of some.
+/// Adds READ BUFFER of all blocks of a subregion, or of some.
 fn push_list(text: &mut Vec<u8>, alloc: Global, dice: &mut Dice) -> Result<(), Fail> {
     let (tag, bytes) = (dice.tag(), dice.roll(161));
-    let words = format!(in alloc; "U 014000{tag:02x} z z 000000a0 f9010000 z {bytes:02x}000000 z")?;
+    let (region, sub) = (dice.low(4), dice.low(4));
+    let words = format!(in alloc;
+        "U 014000{tag:02x} z z 000000a0 f901{region:04x} {sub:04x}0000 {bytes:02x}000000 z"
+    )?;
     push_lines(text, &[words.as_str()])
 }
 
-/// Adds steps, calls of the collector, or a reset.
+/// Adds WRITE BUFFER that gives a region up, or all, or has another mode.
+fn push_inactivation(text: &mut Vec<u8>, alloc: Global, dice: &mut Dice) -> Result<(), Fail> {
+    let (tag, region) = (dice.tag(), dice.low(8));
+    let modes = ["01", "01", "01", "01", "03", "02", "00"];
+    let mode = modes.get(dice.roll(7) as usize).copied().unwrap_or("03");
+    let words = format!(in alloc; "U 010000{tag:02x} z z z fa{mode}{region:04x} z z z")?;
+    push_lines(text, &[words.as_str()])
+}
+
+/// Adds steps, mostly a drain, calls of the collector, or a reset.
 fn push_calls(text: &mut Vec<u8>, dice: &mut Dice) -> Result<(), Fail> {
-    let calls = [
-        "S 1", "S 2", "S 40", "C 1", "C 2", "C 3", "C 20", "D", "D", "R",
-    ];
-    let call = calls.get(dice.roll(10) as usize).copied().unwrap_or("D");
+    let calls = ["S 1", "S 2", "S 40", "C 1", "C 2", "C 3", "C 20", "R"];
+    let call = calls.get(dice.roll(20) as usize).copied().unwrap_or("D");
     push_lines(text, &[call])
 }
 
@@ -596,45 +645,87 @@ fn push_calls(text: &mut Vec<u8>, dice: &mut Dice) -> Result<(), Fail> {
 fn push_throw(text: &mut Vec<u8>, alloc: Global, dice: &mut Dice) -> Result<(), Fail> {
     let tag = dice.tag();
     let n = (dice.roll(4) & 3) as u16;
-    match dice.roll(13) {
-        0 | 1 => {
+    match dice.roll(20) {
+        0..=3 => {
             push_command(text, alloc, dice, "2a", tag, n)?;
             push_lines(text, &["D"])?;
             push_data(text, alloc, tag, 0, n * 4096)
         }
-        2 | 3 => push_command(text, alloc, dice, "28", tag, n),
-        4 => push_data(
+        4..=7 => push_command(text, alloc, dice, "28", tag, n),
+        8 => push_data(
             text,
             alloc,
             tag,
             dice.roll(3).saturating_mul(4096),
             n * 4096,
         ),
-        5 => {
+        9 => {
             let opcodes = ["00", "25", "35", "2a", "12"];
             let opcode = opcodes.get(dice.roll(5) as usize).copied().unwrap_or("00");
             push_command(text, alloc, dice, opcode, tag, n)
         }
-        6 => push_list(text, alloc, dice),
-        7 | 8 => push_read_by_entry(text, alloc, dice),
+        10 | 11 => push_list(text, alloc, dice),
+        12 => push_read_by_entry(text, alloc, dice),
+        13 => push_inactivation(text, alloc, dice),
+        14 => push_reads(text, alloc, dice),
         _ => push_calls(text, dice),
     }
 }
 
+/// The lines that a seed gives.
+fn storm(alloc: Global, seed: u64) -> Result<Vec<u8>, Fail> {
+    let mut dice = Dice(seed);
+    let mut trace = Vec::new(alloc);
+    for _throw in 0..100u32 {
+        push_throw(&mut trace, alloc, &mut dice)?;
+    }
+    push_lines(&mut trace, &["D"])?;
+    Ok(trace)
+}
+
+/// How many lines of a text are a RESPONSE whose segment, behind the mark and 32 bytes, begins so.
+fn count_hints(text: &[u8], hint: &str) -> usize {
+    let mut count = 0usize;
+    for line in text.split(|byte| *byte == b'\n') {
+        let segment = line.get(66..).unwrap_or(&[]);
+        if line.starts_with(b"< 21") && segment.starts_with(hint.as_bytes()) {
+            count = count.saturating_add(1);
+        }
+    }
+    count
+}
+
+/// How hints begin, and how many there are at least in all storms: a reset, one subregion to load, two, a region to
+/// give up.
+const HINTS: [(&str, usize); 4] = [
+    ("0012801002", 40),
+    ("00128010010001", 90),
+    ("00128010010002", 10),
+    ("0012801001000001", 25),
+];
+
+/// The first of these hints that a text has less often.
+fn first_rare(text: &[u8]) -> Option<&'static str> {
+    for (hint, least) in HINTS {
+        if count_hints(text, hint) < least {
+            return Some(hint);
+        }
+    }
+    None
+}
+
 #[test]
 fn storms_leave_sound_transcripts(rt: HostRuntime) -> Result<(), Fail> {
-    for seed in 0..40u64 {
-        let mut dice = Dice(seed);
-        let mut trace = Vec::new(rt.alloc());
-        for _throw in 0..80u32 {
-            push_throw(&mut trace, rt.alloc(), &mut dice)?;
-        }
-        push_lines(&mut trace, &["D"])?;
-        let chip = if seed % 2 == 0 { CHIP } else { SMALL_CHIP };
+    let mut printed = Vec::new(rt.alloc());
+    for seed in 0..48u64 {
+        let trace = storm(rt.alloc(), seed)?;
+        let chip = CHIPS.get((seed % 8) as usize).copied().unwrap_or(CHIP);
         let calls = [seed, seed.wrapping_mul(2).wrapping_add(11), 40, 41, 57];
         let ran = replay_over(rt.alloc(), chip, &trace, &calls)?;
         let verdict = ran.verdict;
         assert!(rt; ran.is_served(), "seed {seed}: {verdict:?}");
+        printed.extend_from_slice(&ran.text)?;
     }
+    assert_eq!(rt; first_rare(&printed), None);
     Ok(())
 }

@@ -1,5 +1,5 @@
-//! A checker of transcripts. It reads the bytes at their places by itself, and keeps its own tasks and blocks, so that
-//! it shares nothing with the device that it judges.
+//! A checker of transcripts. It reads the bytes at their places by itself, and keeps its own tasks, blocks and regions,
+//! so that it shares nothing with the device that it judges.
 use hpb_outside::NoMemory;
 use std::alloc::{AllocError, AllocFailed, Global};
 use std::collections::VecDeque;
@@ -7,8 +7,12 @@ use std::test::Fail;
 
 pub mod counts;
 mod judged;
+mod regions;
+mod sizes;
 
 use counts::{Counts, Seen, read_counts};
+use regions::Regions;
+use sizes::Sizes;
 
 /// The bytes of a block, and of what a READY TO TRANSFER asks for at most.
 const BLOCK: usize = 4096;
@@ -19,11 +23,6 @@ const BURST_BYTES: u32 = 32_768;
 
 /// The tasks that are kept at most.
 const ROOM: usize = 32;
-
-/// The blocks of a region and of a subregion where the words name no other.
-const REGION_BLOCKS: u64 = 128;
-
-const SUB_BLOCKS: u64 = 32;
 
 /// The bytes of a UPIU before its data segment.
 const HEADER: usize = 32;
@@ -52,17 +51,6 @@ const NO_UNIT: (u8, u8) = (0x5, 0x25);
 
 const WRONG_DATA: (u8, u8) = (0xB, 0x4B);
 
-/// The sizes of a device: its logical units, the blocks of each, the pages of its chip and of an erase block. The chip
-/// is erased at first, or it is one that no device leaves behind.
-#[derive(Clone, Copy)]
-pub struct Sizes {
-    pub luns: u8,
-    pub units: u32,
-    pub pages: u32,
-    pub block_pages: u32,
-    pub is_sound: bool,
-}
-
 /// What is wrong with a line of a transcript.
 #[derive(Clone, Copy, Debug, PartialEq, Eq)]
 pub enum Why {
@@ -72,6 +60,8 @@ pub enum Why {
     Reply,
     /// The first task may not send it.
     Sent,
+    /// It tells of the regions what isn't to be told, or lacks what is.
+    Hint,
     /// Its place can't have this block.
     Block,
     /// Its place can't have this entry.
@@ -143,11 +133,16 @@ enum Command {
         lba: u32,
         given: u32,
     },
+    /// WRITE BUFFER, by which the host gives a region up, or all regions.
+    Inactivate {
+        region: u32,
+    },
+    InactivateAll,
 }
 
 impl Command {
     /// The command of a CDB, or the sense that refuses it.
-    fn of(cdb: &[u8], units: u32) -> Result<Command, (u8, u8)> {
+    fn of(cdb: &[u8], sizes: Sizes) -> Result<Command, (u8, u8)> {
         let opcode = byte(cdb, 0);
         let lba = number(cdb, 2, 4);
         let n = match opcode {
@@ -168,32 +163,43 @@ impl Command {
                 entry: Some(entry_at(cdb, 6)),
             },
             0xF8 => return Err(BAD_FIELD),
-            0xF9 => return Command::list(cdb, units),
+            0xF9 => return Command::list(cdb, sizes),
+            0xFA => return Command::write_buffer(cdb, sizes),
             0x2A => Command::Write { lba, n },
             0x35 => Command::Sync { lba, n },
             _ => return Err(UNKNOWN_OPCODE),
         };
-        if u64::from(lba) + u64::from(n) > u64::from(units) {
+        if u64::from(lba) + u64::from(n) > u64::from(sizes.units) {
             return Err(OUT_OF_RANGE);
         }
         Ok(command)
     }
 
     /// READ BUFFER, which names a subregion of a region.
-    fn list(cdb: &[u8], units: u32) -> Result<Command, (u8, u8)> {
-        let region = number(cdb, 2, 2) & 0xFFFF;
-        let sub = number(cdb, 4, 2) & 0xFFFF;
-        let first = u64::from(region) * REGION_BLOCKS + u64::from(sub) * SUB_BLOCKS;
-        let is_there = u64::from(sub) < REGION_BLOCKS / SUB_BLOCKS && first < u64::from(units);
-        if byte(cdb, 1) != 0x01 || !is_there {
+    fn list(cdb: &[u8], sizes: Sizes) -> Result<Command, (u8, u8)> {
+        let sub = number(cdb, 4, 2);
+        let lba = first_of(cdb, sizes).saturating_add(sub.saturating_mul(sizes.sub));
+        if byte(cdb, 1) != 0x01 || sub >= sizes.subs() || lba >= sizes.units {
             return Err(BAD_FIELD);
         }
-        let blocks = SUB_BLOCKS.min(u64::from(units).saturating_sub(first)) as u32;
-        let length = number(cdb, 6, 3) & 0xFF_FFFF;
+        let blocks = sizes.sub.min(sizes.units.saturating_sub(lba));
+        let length = number(cdb, 6, 3);
         Ok(Command::List {
-            lba: first as u32,
+            lba,
             given: length.min(blocks.saturating_mul(8)),
         })
+    }
+
+    /// WRITE BUFFER. Its mode in which it prefetches entries is served no more than an unknown opcode.
+    fn write_buffer(cdb: &[u8], sizes: Sizes) -> Result<Command, (u8, u8)> {
+        match byte(cdb, 1) {
+            0x01 if first_of(cdb, sizes) < sizes.units => Ok(Command::Inactivate {
+                region: number(cdb, 2, 2),
+            }),
+            0x02 => Err(UNKNOWN_OPCODE),
+            0x03 => Ok(Command::InactivateAll),
+            _ => Err(BAD_FIELD),
+        }
     }
 
     /// The bytes that it sends.
@@ -291,6 +297,11 @@ fn number(bytes: &[u8], place: usize, count: usize) -> u32 {
     sum
 }
 
+/// The first block of the region that a CDB names.
+fn first_of(cdb: &[u8], sizes: Sizes) -> u32 {
+    number(cdb, 2, 2).saturating_mul(sizes.region)
+}
+
 /// The entry in the eight bytes from a place on.
 fn entry_at(bytes: &[u8], place: usize) -> u64 {
     let high = number(bytes, place, 4);
@@ -378,16 +389,8 @@ fn reject(alloc: Global, lun: u8, tag: u8, reason: u8) -> Result<Vec<u8>, Stop> 
     Ok(bytes.as_slice().to_vec(alloc)?)
 }
 
-/// A RESPONSE to the command with this LUN and tag, with fixed sense or none.
-fn response(
-    alloc: Global,
-    command: (u8, u8),
-    status: u8,
-    residual: u32,
-    sense: Option<(u8, u8)>,
-) -> Result<Vec<u8>, Stop> {
-    let (lun, tag) = command;
-    let length = if sense.is_some() { 20 } else { 0 };
+/// The header of a RESPONSE to the command with this LUN and tag, before a segment of this length.
+fn response_head((lun, tag): (u8, u8), status: u8, residual: u32, length: u32) -> [u8; HEADER] {
     let mut head = header(0x21, lun, tag, length, residual, 0);
     if residual != 0 {
         head[1] = 0x20;
@@ -396,12 +399,21 @@ fn response(
         head[6] = 0x01;
         head[7] = status;
     }
+    head
+}
+
+/// CHECK CONDITION with fixed sense.
+fn check(
+    alloc: Global,
+    command: (u8, u8),
+    residual: u32,
+    (key, code): (u8, u8),
+) -> Result<Vec<u8>, Stop> {
+    let head = response_head(command, 0x02, residual, 20);
     let mut bytes = head.as_slice().to_vec(alloc)?;
-    if let Some((key, code)) = sense {
-        bytes.extend_from_slice(&[
-            0, 18, 0x70, 0, key, 0, 0, 0, 0, 10, 0, 0, 0, 0, code, 0, 0, 0, 0, 0,
-        ])?;
-    }
+    bytes.extend_from_slice(&[
+        0, 18, 0x70, 0, key, 0, 0, 0, 0, 10, 0, 0, 0, 0, code, 0, 0, 0, 0, 0,
+    ])?;
     Ok(bytes)
 }
 
@@ -467,15 +479,16 @@ impl Place {
     }
 }
 
-/// The tasks and blocks of a device whose transcript is read, the reply that is due, the call of the chip that failed
-/// directly before, whether the chip must have been scanned since it was reset, and what was seen of the counts and
-/// told.
+/// The tasks and blocks of a device whose transcript is read, the regions of each unit, the reply that is due, the call
+/// of the chip that failed directly before, whether the chip must have been scanned since it was reset, and what was
+/// seen of the counts and told.
 #[derive(Drop)]
 struct Oracle {
     alloc: Global,
     sizes: Sizes,
     tasks: VecDeque<Task>,
     places: Vec<Place>,
+    regions: Vec<Regions>,
     due: Option<Vec<u8>>,
     failed: Option<Call>,
     is_scanned: bool,
@@ -494,6 +507,7 @@ impl Oracle {
             sizes,
             tasks: VecDeque::new(alloc),
             places,
+            regions: all_regions(alloc, sizes)?,
             due: None,
             failed: None,
             is_scanned: false,
@@ -551,6 +565,9 @@ impl Oracle {
             }
             _ => return Err(Stop::Bad(Why::Moved)),
         }
+        if let Some(regions) = self.regions.first_mut() {
+            regions.change(u32::try_from(lba).unwrap_or(u32::MAX));
+        }
         self.seen.count_moved();
         Ok(())
     }
@@ -564,9 +581,10 @@ impl Oracle {
         Ok(())
     }
 
-    /// All tasks go, and the chip is scanned anew.
+    /// All tasks go, all regions are forgotten, and the chip is scanned anew.
     fn reset(&mut self) -> Result<(), Stop> {
         self.is_scanned = false;
+        reset_all(&mut self.regions);
         for _task in 0..ROOM {
             if let Some(task) = self.tasks.pop_front() {
                 self.settle(&task, false)?;
@@ -614,17 +632,18 @@ impl Oracle {
             return Ok(Some(reject(self.alloc, upiu.lun, upiu.tag, 8)?));
         }
         if upiu.lun >= self.sizes.luns {
-            return Ok(Some(response(self.alloc, of, 0x02, upiu.first, Some(NO_UNIT))?));
+            return Ok(Some(check(self.alloc, of, upiu.first, NO_UNIT)?));
         }
         if self.tasks.len() >= ROOM {
-            return Ok(Some(response(self.alloc, of, 0x28, upiu.first, None)?));
+            let full = response_head(of, 0x28, upiu.first, 0);
+            return Ok(Some(full.as_slice().to_vec(self.alloc)?));
         }
-        let sense = match Command::of(upiu.cdb, self.sizes.units) {
+        let sense = match Command::of(upiu.cdb, self.sizes) {
             Ok(command) if upiu.first >= command.given().max(command.taken()) => return Ok(None),
             Ok(_) => BAD_FIELD,
             Err(sense) => sense,
         };
-        Ok(Some(response(self.alloc, of, 0x02, upiu.first, Some(sense))?))
+        Ok(Some(check(self.alloc, of, upiu.first, sense)?))
     }
 
     fn reply_to_data(&self, upiu: &Upiu<'_>) -> Result<Option<Vec<u8>>, Stop> {
@@ -641,12 +660,12 @@ impl Oracle {
             return Ok(None);
         }
         let of = (upiu.lun, upiu.tag);
-        Ok(Some(response(self.alloc, of, 0x02, task.left(come), Some(WRONG_DATA))?))
+        Ok(Some(check(self.alloc, of, task.left(come), WRONG_DATA)?))
     }
 
     /// Keeps a command, last in order.
     fn keep(&mut self, upiu: &Upiu<'_>) -> Result<(), Stop> {
-        if let Ok(command) = Command::of(upiu.cdb, self.sizes.units) {
+        if let Ok(command) = Command::of(upiu.cdb, self.sizes) {
             self.tasks.push_back(Task {
                 lun: upiu.lun,
                 tag: upiu.tag,
@@ -701,7 +720,8 @@ impl Oracle {
     /// A step sends these bytes. If they don't tell that the chip isn't ready, each of its pages was read in a step
     /// before.
     fn take_step(&mut self, bytes: &[u8]) -> Result<(), Stop> {
-        self.judge(bytes)?;
+        let hint = self.take_hint(bytes)?;
+        self.judge(bytes, &hint)?;
         self.seen.count_steps(1);
         if !is_unready(bytes) && !self.is_scanned {
             self.is_scanned = true;
@@ -710,8 +730,21 @@ impl Oracle {
         Ok(())
     }
 
-    /// Whether a step may send these bytes for the first task.
-    fn judge(&self, bytes: &[u8]) -> Result<(), Stop> {
+    /// The segment that is due where these bytes answer the first task GOOD. Its command is taken in first.
+    fn take_hint(&mut self, bytes: &[u8]) -> Result<Vec<u8>, Stop> {
+        let task = match self.tasks.front() {
+            Some(task) if is_good(bytes) => task,
+            _ => return Ok(Vec::new(self.alloc)),
+        };
+        let Some(regions) = self.regions.get_mut(usize::from(task.lun)) else {
+            return Ok(Vec::new(self.alloc));
+        };
+        take_in(regions, task.command)?;
+        regions.take_segment(self.alloc, task.lun)
+    }
+
+    /// Whether a step may send these bytes for the first task. This segment is due where they answer it GOOD.
+    fn judge(&self, bytes: &[u8], hint: &[u8]) -> Result<(), Stop> {
         let Some(task) = self.tasks.front() else {
             return Err(Stop::Bad(Why::Sent));
         };
@@ -719,7 +752,7 @@ impl Oracle {
             return Err(Stop::Bad(Why::Sent));
         }
         match byte(bytes, 0) {
-            0x21 => self.judge_end(task, bytes),
+            0x21 => self.judge_end(task, bytes, hint),
             0x22 => self.judge_data(task, bytes),
             _ => judge_ask(task, bytes),
         }
@@ -783,19 +816,14 @@ impl Oracle {
             && number(segment, 4, 4) == BLOCK_BYTES
     }
 
-    fn judge_end(&self, task: &Task, bytes: &[u8]) -> Result<(), Stop> {
-        let come = task.come();
-        let needed = task.command.given().max(task.command.taken());
-        let of = (task.lun, task.tag);
-        let has_moved = task.sent == task.command.given() && come == task.command.taken();
-        let good = response(self.alloc, of, 0x00, task.left(needed), None)?;
-        if has_moved && good.as_slice() == bytes {
-            return Ok(());
+    fn judge_end(&self, task: &Task, bytes: &[u8], hint: &[u8]) -> Result<(), Stop> {
+        if is_good(bytes) {
+            return judge_good(task, bytes, hint);
         }
         let sense = sense_of(bytes);
-        let left = task.left(task.sent.saturating_add(come));
-        let check = response(self.alloc, of, 0x02, left, Some(sense))?;
-        if check.as_slice() != bytes {
+        let left = task.left(task.sent.saturating_add(task.come()));
+        let due = check(self.alloc, (task.lun, task.tag), left, sense)?;
+        if due.as_slice() != bytes {
             return Err(Stop::Bad(Why::Sent));
         }
         self.judge_sense(task.command, sense)
@@ -887,7 +915,7 @@ impl Oracle {
         if let (Command::Read { .. }, UNREAD) = (task.command, sense_of(bytes)) {
             self.seen.count_failed();
         }
-        self.settle(&task, byte(bytes, 7) == 0)
+        self.settle(&task, is_good(bytes))
     }
 
     /// A task has gone. The blocks of a write that came count alone where it was answered GOOD, and else are old or
@@ -916,6 +944,57 @@ fn listed_from(task: &Task, units: u32, lba: u32) -> usize {
     task.place_of(units, lba.saturating_add(task.sent / 8))
 }
 
+/// Whether a RESPONSE may answer a task GOOD, where this segment is due.
+fn judge_good(task: &Task, bytes: &[u8], hint: &[u8]) -> Result<(), Stop> {
+    let (given, taken) = (task.command.given(), task.command.taken());
+    let length = number(bytes, 10, 2);
+    let left = task.left(given.max(taken));
+    let head = response_head((task.lun, task.tag), 0x00, left, length);
+    let Some(segment) = bytes.strip_prefix(head.as_slice()) else {
+        return Err(Stop::Bad(Why::Sent));
+    };
+    if task.sent != given || task.come() != taken {
+        return Err(Stop::Bad(Why::Sent));
+    }
+    if segment != hint || length as usize != hint.len() {
+        return Err(Stop::Bad(Why::Hint));
+    }
+    Ok(())
+}
+
+/// The regions of each logical unit.
+fn all_regions(alloc: Global, sizes: Sizes) -> Result<Vec<Regions>, Stop> {
+    let mut all = Vec::new(alloc);
+    for _lun in 0..sizes.luns {
+        all.push(Regions::new(alloc, sizes)?)?;
+    }
+    Ok(all)
+}
+
+fn reset_all(all: &mut Vec<Regions>) {
+    for regions in all.iter_mut() {
+        regions.reset();
+    }
+}
+
+/// Takes in a command that is answered GOOD.
+fn take_in(regions: &mut Regions, command: Command) -> Result<(), Stop> {
+    match command {
+        Command::Read { lba, n, entry } => regions.read(lba, u32::from(n), entry.is_none())?,
+        Command::Write { lba, n } => regions.change_all(lba, u32::from(n)),
+        Command::List { lba, .. } => regions.load(lba)?,
+        Command::Inactivate { region } => regions.inactivate(region),
+        Command::InactivateAll => regions.inactivate_all(),
+        _ => {}
+    }
+    Ok(())
+}
+
+/// Whether these bytes are a RESPONSE that is GOOD.
+fn is_good(bytes: &[u8]) -> bool {
+    byte(bytes, 0) == 0x21 && byte(bytes, 7) == 0x00
+}
+
 /// The sense key and code of a RESPONSE.
 fn sense_of(bytes: &[u8]) -> (u8, u8) {
     (byte(bytes, 36), byte(bytes, 46))
@@ -937,9 +1016,15 @@ fn judge_ask(task: &Task, bytes: &[u8]) -> Result<(), Stop> {
     Err(Stop::Bad(Why::Sent))
 }
 
-/// What is found of the transcript of a device of these sizes, and what its last line tells.
-pub fn judge(alloc: Global, sizes: Sizes, text: &[u8]) -> Result<(Verdict, Option<Counts>), Fail> {
-    let Ok(mut oracle) = Oracle::new(alloc, sizes) else {
+/// What is found of the transcript of a device that these words name, and what its last line tells. The chip is erased
+/// at first, or it is one that no device leaves behind.
+pub fn judge(
+    alloc: Global,
+    words: &str,
+    is_sound: bool,
+    text: &[u8],
+) -> Result<(Verdict, Option<Counts>), Fail> {
+    let Ok(mut oracle) = Oracle::new(alloc, Sizes::named(words, is_sound)) else {
         return Err(NoMemory.into());
     };
     if text.is_empty() {

@@ -1,15 +1,17 @@
 ghost use Rattle.std.specs.Prelude.{IsTrue, false, ◌≡◌, ◌≤◌, ◌⊎◌, ℕ, List, [], None, map, string_bytes};
 ghost use Rattle.std.specs.Io.KnownBytes.{Appends, IsAtEnd, prepend_known};
+ghost use Rattle.hpb_device.specs.Counted.{CountsStand};
 ghost use Rattle.hpb_device.specs.Counts.{no_counts};
+ghost use Rattle.hpb_device.specs.Regions.{HintsStand};
 ghost use Rattle.hpb_device.specs.Standing.{sizes_of};
-ghost use Rattle.trace_replay.specs.Moments.{Standing};
+ghost use Rattle.trace_replay.specs.Moments.{AreCountsOf, Standing};
 ghost use Rattle.trace_replay.specs.Run.{CountsFault, EndsLong, Finishes, IsPlanned, ProgramIs, RunIs, SinkEnds, SourceEnds, bad_line_text, counts_text};
 ghost use Rattle.trace_replay.specs.Showing.{ShowProgramIs};
 ghost use Rattle.trace_replay.specs.ByText.{is_shown_line, is_trace_line};
 ghost use Rattle.trace_replay.specs.Headline.{DrainsAll, EndsByText, Tells};
 ghost use Rattle.flat_unit.specs.Reads.{ReadsAllowed, ReadsEndGood};
 ghost use Rattle.trace_replay.specs.Options.{cut_shape};
-ghost use Rattle.trace_replay.specs.Transcript.{AreCounts, IsChipOf, IsTranscript, SendsUnready, sizes_on, unit_on};
+ghost use Rattle.trace_replay.specs.Transcript.{AreCountsOn, IsChipOf, IsTranscript, SendsUnready, sizes_on, unit_on};
 ghost use Rattle.trace_replay.specs.Writes.{AppendsFront};
 ghost use Rattle.trace_replay.specs.Words.{IsReplay, IsShow, named_chip, named_unit};
 
@@ -42,7 +44,8 @@ pub fn run<S: Source, K: Sink, F: Flash>(
     // What was read and written, why the run ended, and what is known of the events and of the chip that is handed back.
     ensures run { ¬ IsShow (map string_bytes words.now) → ProgramIs (map string_bytes words.now) (F.geometry flash)
         (IsTranscript (named_unit (map string_bytes words.now)) (F.geometry flash)
-        (F.faults flash) (F.faults result.flash) (F.pages flash) (F.pages result.flash)) AreCounts
+        (F.faults flash) (F.faults result.flash) (F.pages flash) (F.pages result.flash))
+        (AreCountsOn (named_unit (map string_bytes words.now)) (F.geometry flash) (F.pages flash))
         ((source.new ≡ source.old) × (F.pages result.flash ≡ F.pages flash))
         (S.left source.old) (S.left source.new) (K.written sink.old) (K.written sink.new) 1000000 result.status }
     // What is shown of each line, and why the run ended.
@@ -95,7 +98,8 @@ fn run_command<S: Source, K: Sink, F: Flash>(
     // What was read and written, why the run ended, and what is known of the events and of the chip that is handed back.
     ensures run { ¬ IsShow (map string_bytes words.now) → ProgramIs (map string_bytes words.now) (F.geometry flash)
         (IsTranscript (named_unit (map string_bytes words.now)) (F.geometry flash)
-        (F.faults flash) (F.faults result.flash) (F.pages flash) (F.pages result.flash)) AreCounts
+        (F.faults flash) (F.faults result.flash) (F.pages flash) (F.pages result.flash))
+        (AreCountsOn (named_unit (map string_bytes words.now)) (F.geometry flash) (F.pages flash))
         ((source.new ≡ source.old) × (F.pages result.flash ≡ F.pages flash))
         (S.left source.old) (S.left source.new) (K.written sink.old) (K.written sink.new) 1000000 result.status }
     // What is shown of each line, and why the run ended.
@@ -127,7 +131,8 @@ fn run_replay<S: Source, K: Sink, F: Flash>(
     ensures run { (words : List (List ℕ)) → IsReplay words → named.chip ≡ named_chip words
         → named.unit ≡ cut_shape (named_unit words)
         → ProgramIs words (F.geometry flash)
-        (IsTranscript (named_unit words) (F.geometry flash) (F.faults flash) (F.faults result.flash) (F.pages flash) (F.pages result.flash)) AreCounts
+        (IsTranscript (named_unit words) (F.geometry flash) (F.faults flash) (F.faults result.flash) (F.pages flash) (F.pages result.flash))
+        (AreCountsOn (named_unit words) (F.geometry flash) (F.pages flash))
         ((source.new ≡ source.old) × (F.pages result.flash ≡ F.pages flash))
         (S.left source.old) (S.left source.new) (K.written sink.old) (K.written sink.new) 1000000 result.status }
     ensures geometry { F.geometry result.flash ≡ F.geometry flash }
@@ -201,11 +206,13 @@ fn replay<S: Source, K: Sink, F: Flash>(
 ) -> Status
     requires begun { device.old.tasks ≡ [] }
     requires uncounted { device.old.counts ≡ no_counts }
+    requires hints { HintsStand device.old [] }
+    requires counted { CountsStand device.old [] }
     requires scanned { device.old.store.scanned ≡ 0 }
     requires some_page { 1 ≤ device.old.store.geometry.pages }
     requires unread { buffers.old.reader ≡ record { held = []; ended = false } }
     requires fresh { buffers.old.output ≡ [] }
-    ensures run { RunIs (sizes_of device.old) (Standing device.old device.new) AreCounts
+    ensures run { RunIs (sizes_of device.old) (Standing device.old device.new) (AreCountsOf device.old)
         (prepend_known buffers.old.reader.held (S.left source.old)) (S.left source.new)
         (K.written sink.old) (K.written sink.new) 1000000 result }
     ensures source_faults { SourceEnds (S.faults source.old) (S.faults source.new) result }

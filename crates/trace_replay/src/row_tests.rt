@@ -1,5 +1,6 @@
 //! Whole transcripts of a device, byte for byte: tables of lines, each with what is printed for it.
-use crate::tests::{ASKED, GIVEN, Outside, READ_BACK, Script, is_printed};
+use crate::Status;
+use crate::tests::{ASKED, GIVEN, Outside, READ_BACK, REPLAY, Script, run_words};
 use std::alloc::Global;
 use std::process::Abort;
 use std::test::Fail;
@@ -392,7 +393,7 @@ const BY_A_STALE_ENTRY: [(&str, &str); 10] = [
 ];
 
 /// A block is written while the collector has its older page in the buffer. The move that follows is another block's,
-/// and after a reset the block is the newer one.
+/// and after a reset, which its host is told of, the block is the newer one.
 const OVERWRITTEN_IN_THE_BUFFER: [(&str, &str); 17] = [
     ("U 01200002 z z 00004000 2a000000 z 04000000 z", ""),
     ("D", "< 31000002 z z z 00004000 z z z"),
@@ -412,12 +413,13 @@ const OVERWRITTEN_IN_THE_BUFFER: [(&str, &str); 17] = [
     ("U 01400001 z z 00001000 28000000 00010000 01000000 z", ""),
     (
         "D",
-        "< 22000001 z 00001000 z 00001000 z z z 22s / < 21000001 z z z z z z z",
+        "< 22000001 z 00001000 z 00001000 z z z 22s / \
+         < 21000001 z 00000014 z z z z z 00128010 02000000 z z z",
     ),
 ];
 
 /// A write is cut by a reset when two of its three blocks are programmed. They are the new ones after this reset and
-/// the next.
+/// the next. The host is told of both resets.
 const CUT_BY_A_RESET: [(&str, &str); 14] = [
     ("U 01200002 z z 00003000 2a000000 z 03000000 z", ""),
     ("D", "< 31000002 z z z 00003000 z z z"),
@@ -438,14 +440,109 @@ const CUT_BY_A_RESET: [(&str, &str); 14] = [
 /// The blocks of the cut write.
 const CUT_BLOCKS: &str = "< 22000001 z 00001000 z 00001000 z z z 22s / \
      < 22000001 z 00001000 00001000 00001000 z z z 22s / \
-     < 22000001 z 00001000 00002000 00001000 z z z 11s / < 21000001 z z z z z z z";
+     < 22000001 z 00001000 00002000 00001000 z z z 11s / \
+     < 21000001 z 00000014 z z z z z 00128010 02000000 z z z";
+
+/// A block of subregion 2 of region 0 is read, and the read after which that subregion is told to be loaded.
+const READ_4: [(&str, &str); 2] = [
+    ("U 01400001 z z 00001000 28000000 00040000 01000000 z", ""),
+    (
+        "D",
+        "< 22000001 z 00001000 z 00001000 z z z zeros / < 21000001 z z z z z z z",
+    ),
+];
+
+const READ_4_TOLD: [(&str, &str); 2] = [
+    ("U 01400001 z z 00001000 28000000 00040000 01000000 z", ""),
+    (
+        "D",
+        "< 22000001 z 00001000 z 00001000 z z z zeros / \
+         < 21000001 z 00000014 z z z z z 00128010 01000100 00000002 z z",
+    ),
+];
+
+/// The entries of this subregion are listed.
+const LOADED: [(&str, &str); 2] = [
+    ("U 01400007 z z 00000010 f9010000 00020000 10000000 z", ""),
+    (
+        "D",
+        "< 22000007 z 00000010 z 00000010 z z z ffffffff ffffffff ffffffff ffffffff / \
+         < 21000007 z z z z z z z",
+    ),
+];
+
+/// The data of the write after which it is told to be loaded anew.
+const GIVEN_TOLD: [(&str, &str); 2] = [
+    ("U 02000002 z 00001000 z 00001000 z z z block", ""),
+    (
+        "D",
+        "< 21000002 z 00000014 z z z z z 00128010 01000100 00000002 z z",
+    ),
+];
+
+/// A subregion of region 1 is loaded, for which region 0 is given up.
+const LOADED_OTHER: [(&str, &str); 2] = [
+    ("U 01400007 z z 00000010 f9010001 z 10000000 z", ""),
+    (
+        "D",
+        "< 22000007 z 00000010 z 00000010 z z z ffffffff ffffffff ffffffff ffffffff / \
+         < 21000007 z 00000014 z z z z z 00128010 01000001 z z z",
+    ),
+];
+
+/// The host gives up region 1, and all regions.
+const INACTIVATED: [(&str, &str); 4] = [
+    ("U 01000001 z z z fa010001 z z z", ""),
+    ("D", "< 21000001 z z z z z z z"),
+    ("U 01000001 z z z fa030000 z z z", ""),
+    ("D", "< 21000001 z z z z z z z"),
+];
+
+/// WRITE BUFFER that is refused: of a region past the unit, in modes that don't exist, and to prefetch an entry.
+const NOT_INACTIVATED: [(&str, &str); 4] = [
+    (
+        "U 01000001 z z z fa010003 z z z",
+        "< 21000001 00000102 00000014 z z z z z 00127000 05000000 000a0000 00002400 z",
+    ),
+    (
+        "U 01000001 z z z fa000000 z z z",
+        "< 21000001 00000102 00000014 z z z z z 00127000 05000000 000a0000 00002400 z",
+    ),
+    (
+        "U 01000001 z z z fa040000 z z z",
+        "< 21000001 00000102 00000014 z z z z z 00127000 05000000 000a0000 00002400 z",
+    ),
+    (
+        "U 01200001 z z 00000008 fa020000 00040100 08000000 z",
+        "< 21200001 00000102 00000014 00000008 z z z z 00127000 05000000 000a0000 00002000 z",
+    ),
+];
+
+/// A reset is told by the next answer that is GOOD.
+const RESET: [(&str, &str); 3] = [
+    ("R", "R"),
+    ("U 01000001 z z z z z z z", ""),
+    (
+        "D",
+        "< 21000001 z 00000014 z z z z z 00128010 02000000 z z z",
+    ),
+];
+
+/// Words that name regions of 8 blocks and subregions of 2; the same where the host may hold one region, and where it
+/// decides which ones it holds.
+const SMALL: &str = "replay --blocks 8 --pages 4 --region 6 --sub 4";
+
+const SMALL_HELD: &str = "replay --blocks 8 --pages 4 --region 6 --sub 4 --held 1";
+
+const SMALL_HOST: &str = "replay --blocks 8 --pages 4 --region 6 --sub 4 --mode host";
 
 /// No call of the chip has this number.
 const NONE: u64 = 1000;
 
-/// A row: its name, how often a block is written first, its tables, the number of the call of the chip that fails, and
-/// what is counted.
+/// A row: its name, its words, how often a block is written first, its tables, the number of the call of the chip that
+/// fails, and what is counted.
 type Row = (
+    &'static str,
     &'static str,
     usize,
     &'static [&'static [(&'static str, &'static str)]],
@@ -453,15 +550,44 @@ type Row = (
     &'static str,
 );
 
-const ROWS: [Row; 24] = [
-    ("nothing", 0, &[], NONE, "T=0,0,0,0,0"),
-    ("never written", 0, &[&UNWRITTEN], NONE, "T=34,1,0,0,0"),
-    ("one block", 1, &[&READ_BACK], NONE, "T=37,1,0,0,0"),
-    ("nine blocks", 0, &[&NINE_BLOCKS], NONE, "T=44,0,0,0,0"),
-    ("at the end", 0, &[&AT_THE_END], NONE, "T=35,1,0,0,0"),
-    ("by entries", 0, &[&BY_ENTRIES], NONE, "T=49,3,1,0,0"),
+const ROWS: [Row; 28] = [
+    ("nothing", REPLAY, 0, &[], NONE, "T=0,0,0,0,0"),
+    (
+        "never written",
+        REPLAY,
+        0,
+        &[&UNWRITTEN],
+        NONE,
+        "T=34,1,0,0,0",
+    ),
+    ("one block", REPLAY, 1, &[&READ_BACK], NONE, "T=37,1,0,0,0"),
+    (
+        "nine blocks",
+        REPLAY,
+        0,
+        &[&NINE_BLOCKS],
+        NONE,
+        "T=44,0,0,0,0",
+    ),
+    (
+        "at the end",
+        REPLAY,
+        0,
+        &[&AT_THE_END],
+        NONE,
+        "T=35,1,0,0,0",
+    ),
+    (
+        "by entries",
+        REPLAY,
+        0,
+        &[&BY_ENTRIES],
+        NONE,
+        "T=49,3,1,0,0",
+    ),
     (
         "by a stale entry",
+        REPLAY,
         0,
         &[&BY_A_STALE_ENTRY],
         NONE,
@@ -469,6 +595,7 @@ const ROWS: [Row; 24] = [
     ),
     (
         "overwritten in the buffer",
+        REPLAY,
         0,
         &[&OVERWRITTEN_IN_THE_BUFFER],
         NONE,
@@ -476,6 +603,7 @@ const ROWS: [Row; 24] = [
     ),
     (
         "cut by a reset",
+        REPLAY,
         0,
         &[&CUT_BY_A_RESET],
         NONE,
@@ -483,6 +611,7 @@ const ROWS: [Row; 24] = [
     ),
     (
         "written anew again and again",
+        REPLAY,
         0,
         &[
             &FILLED, &FILLED, &FILLED, &FILLED, &FILLED, &FILLED, &FILLED, &FILLED, &FILLED,
@@ -493,6 +622,7 @@ const ROWS: [Row; 24] = [
     ),
     (
         "moved block",
+        REPLAY,
         0,
         &[
             &FILLED, &ASKED, &GIVEN, &ASKED_4, &GIVEN, &ASKED_8, &GIVEN, &ASKED_12, &GIVEN,
@@ -502,9 +632,17 @@ const ROWS: [Row; 24] = [
         NONE,
         "T=86,0,0,1,1",
     ),
-    ("second read", 0, &[&SECOND_READ], 37, "T=43,5,0,0,0"),
+    (
+        "second read",
+        REPLAY,
+        0,
+        &[&SECOND_READ],
+        37,
+        "T=43,5,0,0,0",
+    ),
     (
         "more writes than pages",
+        REPLAY,
         33,
         &[&READ_BACK],
         NONE,
@@ -512,6 +650,7 @@ const ROWS: [Row; 24] = [
     ),
     (
         "failed scan",
+        REPLAY,
         0,
         &[&UNSCANNED, &ASKED, &GIVEN, &READ_BACK],
         32,
@@ -519,6 +658,7 @@ const ROWS: [Row; 24] = [
     ),
     (
         "failed scan without a task",
+        REPLAY,
         0,
         &[&UNSCANNED_ALONE, &WRITTEN_BY_STEPS, &STEPPED],
         1,
@@ -526,6 +666,7 @@ const ROWS: [Row; 24] = [
     ),
     (
         "failed program",
+        REPLAY,
         0,
         &[
             &ASKED,
@@ -538,18 +679,34 @@ const ROWS: [Row; 24] = [
         33,
         "T=41,2,0,0,0",
     ),
-    ("failed read", 1, &[&UNREAD, &READ_BACK], 34, "T=38,2,0,0,0"),
-    ("at rest", 0, &[&ANSWERED, &CHECKED], NONE, "T=0,0,0,0,0"),
+    (
+        "failed read",
+        REPLAY,
+        1,
+        &[&UNREAD, &READ_BACK],
+        34,
+        "T=38,2,0,0,0",
+    ),
+    (
+        "at rest",
+        REPLAY,
+        0,
+        &[&ANSWERED, &CHECKED],
+        NONE,
+        "T=0,0,0,0,0",
+    ),
     (
         "while a write waits",
+        REPLAY,
         0,
         &[&ASKED, &ANSWERED, &GIVEN, &READ_BACK],
         NONE,
         "T=37,1,0,0,0",
     ),
-    ("one by one", 1, &[&READ_MANY], NONE, "T=41,3,0,0,0"),
+    ("one by one", REPLAY, 1, &[&READ_MANY], NONE, "T=41,3,0,0,0"),
     (
         "other data",
+        REPLAY,
         0,
         &[
             &ASKED,
@@ -566,18 +723,84 @@ const ROWS: [Row; 24] = [
     ),
     (
         "by steps",
+        REPLAY,
         0,
         &[&WRITTEN_BY_STEPS, &STEPPED],
         NONE,
         "T=38,2,0,0,0",
     ),
-    ("wrong offset", 0, &[&WRONG_OFFSET], NONE, "T=35,1,0,0,0"),
-    ("in order", 0, &[&IN_ORDER], NONE, "T=36,0,0,0,0"),
+    (
+        "wrong offset",
+        REPLAY,
+        0,
+        &[&WRONG_OFFSET],
+        NONE,
+        "T=35,1,0,0,0",
+    ),
+    ("in order", REPLAY, 0, &[&IN_ORDER], NONE, "T=36,0,0,0,0"),
+    (
+        "a hot subregion",
+        SMALL,
+        0,
+        &[&READ_4, &READ_4, &READ_4, &READ_4_TOLD],
+        NONE,
+        "T=40,4,0,0,0",
+    ),
+    (
+        "a hot subregion where the host decides",
+        SMALL_HOST,
+        0,
+        &[&READ_4, &READ_4, &READ_4, &READ_4],
+        NONE,
+        "T=40,4,0,0,0",
+    ),
+    (
+        "a subregion that is loaded, changed and given up",
+        SMALL_HELD,
+        0,
+        &[
+            &READ_4,
+            &READ_4,
+            &READ_4,
+            &READ_4_TOLD,
+            &READ_4,
+            &LOADED,
+            &ASKED_4,
+            &GIVEN,
+            &ASKED_4,
+            &GIVEN,
+            &ASKED_4,
+            &GIVEN,
+            &ASKED_4,
+            &GIVEN,
+            &ASKED_4,
+            &GIVEN,
+            &ASKED_4,
+            &GIVEN,
+            &ASKED_4,
+            &GIVEN,
+            &ASKED_4,
+            &GIVEN_TOLD,
+            &LOADED_OTHER,
+            &INACTIVATED,
+            &NOT_INACTIVATED,
+        ],
+        NONE,
+        "T=72,5,0,0,0",
+    ),
+    (
+        "a reset is told",
+        REPLAY,
+        0,
+        &[&RESET],
+        NONE,
+        "T=33,0,0,0,0",
+    ),
 ];
 
 /// Whether a row is printed whole.
 fn is_row(alloc: Global, row: Row) -> Result<bool, Fail> {
-    let (_, writes, tables, call, counts) = row;
+    let (_, words, writes, tables, call, counts) = row;
     let mut script = Script::new(alloc);
     for _write in 0..writes {
         script.add(&ASKED)?;
@@ -589,7 +812,8 @@ fn is_row(alloc: Global, row: Row) -> Result<bool, Fail> {
     script.end(counts)?;
     let mut outside = Outside::faultless(alloc);
     outside.calls.push(call)?;
-    is_printed(alloc, &script, outside)
+    let ran = run_words(alloc, words, &script.trace, outside)?;
+    Ok(ran.is_end(Status::Done, &script.printed))
 }
 
 #[test]

@@ -13,7 +13,7 @@ const CHIP: Geometry = Geometry {
     pages: 4,
 };
 
-const REPLAY: &str = "replay --blocks 8 --pages 4";
+pub const REPLAY: &str = "replay --blocks 8 --pages 4";
 
 /// More than any of these runs prints.
 const ROOM: usize = 4_000_000;
@@ -269,7 +269,7 @@ pub fn replay(alloc: Global, trace: &[u8], outside: Outside) -> Result<Ran, Fail
 }
 
 /// Replays a script, and tells whether all of it was printed.
-pub fn is_printed(alloc: Global, script: &Script, outside: Outside) -> Result<bool, Fail> {
+fn is_printed(alloc: Global, script: &Script, outside: Outside) -> Result<bool, Fail> {
     let ran = replay(alloc, &script.trace, outside)?;
     Ok(ran.is_end(Status::Done, &script.printed))
 }

@@ -1,5 +1,6 @@
 //! What the last line of a transcript tells, and what the lines before it show of that.
-use super::{Sizes, Stop, Why, decimal};
+use super::sizes::Sizes;
+use super::{Stop, Why, decimal};
 
 /// What the last line tells.
 #[derive(Clone, Copy, Debug, PartialEq, Eq)]

@@ -1,5 +1,5 @@
 //! Transcripts of a few lines, and what the checker finds of each.
-use super::{Sizes, Verdict, Why, judge};
+use super::{Verdict, Why, judge};
 use crate::texts::push_words;
 use std::alloc::Global;
 use std::process::Abort;
@@ -59,23 +59,37 @@ const BOTH_LISTED: &str = "< 22000007 z 00000010 z 00000010 z z z z z z 00000001
 
 const LISTED: &str = "< 21000007 z z z z z z z";
 
-/// What is found of these lines at a unit of 20 blocks over 32 pages.
-fn judge_lines(alloc: Global, lines: &[&str], is_sound: bool) -> Result<Verdict, Fail> {
+/// The end of a read, and of READ BUFFER, with the hint that all is to be forgotten.
+const RESET_TOLD: &str = "< 21000003 z 00000014 z z z z z 00128010 02000000 z z z";
+
+const LISTED_AND_TOLD: &str = "< 21000007 z 00000014 z z z z z 00128010 02000000 z z z";
+
+/// What is found of these lines where these words name the device.
+fn judge_lines(
+    alloc: Global,
+    words: &str,
+    is_sound: bool,
+    lines: &[&str],
+) -> Result<Verdict, Fail> {
     let mut text = Vec::new(alloc);
     for line in lines.iter().copied() {
         push_words(&mut text, line)?;
         text.push(b'\n')?;
     }
-    let sizes = Sizes {
-        luns: 1,
-        units: 20,
-        pages: 32,
-        block_pages: 4,
-        is_sound,
-    };
-    let (verdict, _) = judge(alloc, sizes, &text)?;
+    let (verdict, _) = judge(alloc, words, is_sound, &text)?;
     Ok(verdict)
 }
+
+/// Words that name a unit of 20 blocks over 32 pages, in one region, and in regions of 8 blocks and subregions of 2, of
+/// which the host may hold one, or two.
+const PLAIN: &str = "replay --blocks 8 --pages 4";
+
+const HOLDS_ONE: &str = "replay --blocks 8 --pages 4 --region 6 --sub 4 --held 1";
+
+const HOLDS_TWO: &str = "replay --blocks 8 --pages 4 --region 6 --sub 4 --held 2";
+
+/// The same where the host decides which it holds.
+const HOST_DECIDES: &str = "replay --blocks 8 --pages 4 --region 6 --sub 4 --held 1 --mode host";
 
 /// Sound, where all is done that can be done without the host, and where something can go on.
 const RESTS: Verdict = Verdict::Sound { rests: true };
@@ -212,16 +226,16 @@ const JUDGED: [Judged; 85] = [
     // A reset drops a read, a write whose data didn't come, and one whose block is old or new until it is read.
     (&[READ, "R"], RESTS),
     (&[READ, "R", ZEROS], Verdict::Bad(3, Why::Sent)),
-    (&[WRITE, ASKED, "R", READ, ZEROS, ENDED], RESTS),
+    (&[WRITE, ASKED, "R", READ, ZEROS, RESET_TOLD], RESTS),
     (
         &[WRITE, ASKED, "R", READ, SHOWN],
         Verdict::Bad(5, Why::Block),
     ),
-    (&[WRITE, ASKED, DATA, "R", READ, SHOWN, ENDED], RESTS),
-    (&[WRITE, ASKED, DATA, "R", READ, ZEROS, ENDED], RESTS),
+    (&[WRITE, ASKED, DATA, "R", READ, SHOWN, RESET_TOLD], RESTS),
+    (&[WRITE, ASKED, DATA, "R", READ, ZEROS, RESET_TOLD], RESTS),
     (
         &[
-            WRITE, ASKED, DATA, "R", READ, ZEROS, ENDED, "R", READ, SHOWN,
+            WRITE, ASKED, DATA, "R", READ, ZEROS, RESET_TOLD, "R", READ, SHOWN,
         ],
         Verdict::Bad(10, Why::Block),
     ),
@@ -251,10 +265,13 @@ const JUDGED: [Judged; 85] = [
         Verdict::Bad(6, Why::Entry),
     ),
     (
-        &[WRITE, ASKED, DATA, "R", LIST, FIRST_LISTED, LISTED],
+        &[WRITE, ASKED, DATA, "R", LIST, FIRST_LISTED, LISTED_AND_TOLD],
         RESTS,
     ),
-    (&[WRITE, ASKED, DATA, "R", LIST, NONE_LISTED, LISTED], RESTS),
+    (
+        &[WRITE, ASKED, DATA, "R", LIST, NONE_LISTED, LISTED_AND_TOLD],
+        RESTS,
+    ),
     // Nothing is counted, nothing follows the counts, and they are five.
     (&["T=0,0,0,0,0"], RESTS),
     (&["T=32,0,0,0,0"], RESTS),
@@ -329,11 +346,29 @@ const JUDGED: [Judged; 85] = [
     ),
     // Each scan takes its steps.
     (
-        &[READ, ZEROS, ENDED, "R", READ, ZEROS, ENDED, "T=68,2,0,0,0"],
+        &[
+            READ,
+            ZEROS,
+            ENDED,
+            "R",
+            READ,
+            ZEROS,
+            RESET_TOLD,
+            "T=68,2,0,0,0",
+        ],
         RESTS,
     ),
     (
-        &[READ, ZEROS, ENDED, "R", READ, ZEROS, ENDED, "T=67,2,0,0,0"],
+        &[
+            READ,
+            ZEROS,
+            ENDED,
+            "R",
+            READ,
+            ZEROS,
+            RESET_TOLD,
+            "T=67,2,0,0,0",
+        ],
         Verdict::Bad(8, Why::Counts),
     ),
     // A read that failed was looked up, or its entry was tried.
@@ -465,10 +500,244 @@ const JUDGED_FOREIGN: [Judged; 8] = [
     (&["T=0,0,0,0,1"], Verdict::Bad(1, Why::Counts)),
 ];
 
+/// A read of LBA 11, which is in subregion 1 of region 1, and its block; and three such reads that are answered.
+const READ_11: &str = "> 01400003 z z 00001000 28000000 000b0000 01000000 z / \
+     < 22000003 z 00001000 z 00001000 z z z zeros";
+
+const THREE_READS: &str = "> 01400003 z z 00001000 28000000 000b0000 01000000 z / \
+     < 22000003 z 00001000 z 00001000 z z z zeros / < 21000003 z z z z z z z / \
+     > 01400003 z z 00001000 28000000 000b0000 01000000 z / \
+     < 22000003 z 00001000 z 00001000 z z z zeros / < 21000003 z z z z z z z / \
+     > 01400003 z z 00001000 28000000 000b0000 01000000 z / \
+     < 22000003 z 00001000 z 00001000 z z z zeros / < 21000003 z z z z z z z";
+
+/// A read of LBA 7 and 8, which are in regions 0 and 1, and its blocks.
+const READ_7_8: &str = "> 01400003 z z 00002000 28000000 00070000 02000000 z / \
+     < 22000003 z 00001000 z 00001000 z z z zeros / < 22000003 z 00001000 00001000 00001000 z z z zeros";
+
+/// The end of a read with a hint: subregion 1 of region 1 is to be loaded, or subregion 0 of it, or of region 0.
+const TOLD: &str = "< 21000003 z 00000014 z z z z z 00128010 01000100 00010001 z z";
+
+const OTHER_TOLD: &str = "< 21000003 z 00000014 z z z z z 00128010 01000100 00010000 z z";
+
+const FIRST_TOLD: &str = "< 21000003 z 00000014 z z z z z 00128010 01000100 z z z";
+
+/// The end of a read that failed, with a hint in the place of the sense.
+const FAILED_AND_TOLD: &str =
+    "< 21200003 00000102 00000014 00001000 z z z z 00128010 01000100 00010001 z z";
+
+/// READ BUFFER of the first subregion of a region, of no bytes.
+const LOAD_0: &str = "> 01000007 z z z f9010000 z z z";
+
+const LOAD_1: &str = "> 01000007 z z z f9010001 z z z";
+
+const LOAD_2: &str = "> 01000007 z z z f9010002 z z z";
+
+/// Its end with a hint: a region is to be given up.
+const GIVE_UP_0: &str = "< 21000007 z 00000014 z z z z z 00128010 01000001 z z z";
+
+const GIVE_UP_1: &str = "< 21000007 z 00000014 z z z z z 00128010 01000001 z z 00010000";
+
+/// WRITE BUFFER by which the host gives up region 0, region 3, which has no block, and all regions.
+const INACTIVE_0: &str = "> 01000007 z z z fa010000 z z z";
+
+const INACTIVE_3: &str = "> 01000007 z z z fa010003 z z z";
+
+const ALL_INACTIVE: &str = "> 01000007 z z z fa030000 z z z";
+
+const BAD_REGION: &str =
+    "< 21000007 00000102 00000014 z z z z z 00127000 05000000 000a0000 00002400 z";
+
+/// A block is moved seven times.
+const SEVEN_MOVES: &str = "M 0 / M 0 / M 0 / M 0 / M 0 / M 0 / M 0";
+
+/// Transcripts where the host may hold one region.
+const JUDGED_HOLDS_ONE: [Judged; 24] = [
+    // The fourth read is told of, once, of its subregion. It isn't lost by a read that fails, which isn't counted.
+    (&[THREE_READS, READ_11, TOLD, READ_11, ENDED], RESTS),
+    (
+        &[THREE_READS, READ, "! read", READ_FAILED, READ_11, TOLD],
+        RESTS,
+    ),
+    (&[THREE_READS, READ_11, ENDED], Verdict::Bad(12, Why::Hint)),
+    (
+        &[THREE_READS, READ_11, TOLD, READ_11, TOLD],
+        Verdict::Bad(15, Why::Hint),
+    ),
+    (
+        &[THREE_READS, READ_11, OTHER_TOLD],
+        Verdict::Bad(12, Why::Hint),
+    ),
+    (&[READ_11, TOLD], Verdict::Bad(3, Why::Hint)),
+    (&[READ_11, RESET_TOLD], Verdict::Bad(3, Why::Hint)),
+    // No hint stands in a RESPONSE that isn't GOOD, nor in one that comes too early.
+    (
+        &[THREE_READS, READ, "! read", FAILED_AND_TOLD],
+        Verdict::Bad(12, Why::Sent),
+    ),
+    (
+        &[
+            "> 01400003 z z 00001000 28000000 00140000 01000000 z",
+            FAILED_AND_TOLD,
+        ],
+        Verdict::Bad(2, Why::Reply),
+    ),
+    (&[THREE_READS, READ, TOLD], Verdict::Bad(11, Why::Sent)),
+    // Reads by entries don't count.
+    (
+        &[
+            BY_ENTRY, ZEROS, ENDED, BY_ENTRY, ZEROS, ENDED, BY_ENTRY, ZEROS, ENDED, BY_ENTRY,
+            ZEROS, ENDED,
+        ],
+        RESTS,
+    ),
+    // A reset is told once, and forgets the counts.
+    (&["R", READ_11, RESET_TOLD, READ_11, ENDED], RESTS),
+    (&["R", READ_11, ENDED], Verdict::Bad(4, Why::Hint)),
+    (
+        &["R", READ_11, RESET_TOLD, READ_11, RESET_TOLD],
+        Verdict::Bad(7, Why::Hint),
+    ),
+    (
+        &[THREE_READS, "R", READ_11, RESET_TOLD, READ_11, ENDED],
+        RESTS,
+    ),
+    // Another region is loaded in the place of the one that is held.
+    (&[LOAD_0, LISTED, LOAD_1, GIVE_UP_0, LOAD_1, LISTED], RESTS),
+    (
+        &[LOAD_0, LISTED, LOAD_1, LISTED],
+        Verdict::Bad(4, Why::Hint),
+    ),
+    (
+        &[LOAD_0, LISTED, LOAD_1, GIVE_UP_1],
+        Verdict::Bad(4, Why::Hint),
+    ),
+    // The host has given the region up before.
+    (&[LOAD_0, LISTED, INACTIVE_0, LISTED, LOAD_1, LISTED], RESTS),
+    (
+        &[LOAD_0, LISTED, ALL_INACTIVE, LISTED, LOAD_1, GIVE_UP_0],
+        Verdict::Bad(6, Why::Hint),
+    ),
+    (&[INACTIVE_3, BAD_REGION], RESTS),
+    // A subregion that is held is changed eight times, by a write and by moves. Where it isn't held, that isn't told.
+    (
+        &[
+            LOAD_0,
+            LISTED,
+            WRITE,
+            ASKED,
+            DATA,
+            WRITTEN,
+            SEVEN_MOVES,
+            READ,
+            SHOWN,
+            FIRST_TOLD,
+            READ,
+            SHOWN,
+            ENDED,
+        ],
+        RESTS,
+    ),
+    (
+        &[
+            LOAD_0,
+            LISTED,
+            WRITE,
+            ASKED,
+            DATA,
+            WRITTEN,
+            SEVEN_MOVES,
+            READ,
+            SHOWN,
+            ENDED,
+        ],
+        Verdict::Bad(16, Why::Hint),
+    ),
+    (
+        &[
+            LOAD_0,
+            LISTED,
+            INACTIVE_0,
+            LISTED,
+            WRITE,
+            ASKED,
+            DATA,
+            WRITTEN,
+            SEVEN_MOVES,
+            READ,
+            SHOWN,
+            ENDED,
+        ],
+        RESTS,
+    ),
+];
+
+/// Transcripts where it may hold two: the one that was loaded or read last stays.
+const JUDGED_HOLDS_TWO: [Judged; 7] = [
+    (&[LOAD_0, LISTED, LOAD_1, LISTED, LOAD_2, GIVE_UP_0], RESTS),
+    (
+        &[LOAD_0, LISTED, LOAD_1, LISTED, LOAD_2, GIVE_UP_1],
+        Verdict::Bad(6, Why::Hint),
+    ),
+    (
+        &[
+            LOAD_0, LISTED, LOAD_1, LISTED, READ, ZEROS, ENDED, LOAD_2, GIVE_UP_1,
+        ],
+        RESTS,
+    ),
+    (
+        &[
+            LOAD_0, LISTED, LOAD_1, LISTED, READ, ZEROS, ENDED, LOAD_2, GIVE_UP_0,
+        ],
+        Verdict::Bad(9, Why::Hint),
+    ),
+    // Of the regions of one read the one of the highest number.
+    (
+        &[
+            LOAD_1, LISTED, LOAD_0, LISTED, READ_7_8, ENDED, LOAD_2, GIVE_UP_0,
+        ],
+        RESTS,
+    ),
+    (
+        &[
+            LOAD_0, LISTED, LOAD_1, LISTED, INACTIVE_0, LISTED, LOAD_2, LISTED,
+        ],
+        RESTS,
+    ),
+    (
+        &[
+            LOAD_0,
+            LISTED,
+            LOAD_1,
+            LISTED,
+            ALL_INACTIVE,
+            LISTED,
+            LOAD_2,
+            LISTED,
+            LOAD_0,
+            LISTED,
+        ],
+        RESTS,
+    ),
+];
+
+/// Transcripts where the host decides which it holds: it is told of resets and of regions to give up alone.
+const JUDGED_HOST_DECIDES: [Judged; 4] = [
+    (&[THREE_READS, READ_11, ENDED], RESTS),
+    (&[THREE_READS, READ_11, TOLD], Verdict::Bad(12, Why::Hint)),
+    (&["R", READ_11, RESET_TOLD], RESTS),
+    (&[LOAD_0, LISTED, LOAD_1, GIVE_UP_0], RESTS),
+];
+
 /// The number of the first transcript of which something else is found.
-fn first_other(alloc: Global, rows: &[Judged], is_sound: bool) -> Result<Option<usize>, Fail> {
+fn first_other(
+    alloc: Global,
+    words: &str,
+    is_sound: bool,
+    rows: &[Judged],
+) -> Result<Option<usize>, Fail> {
     for (number, (lines, verdict)) in rows.iter().copied().enumerate() {
-        if judge_lines(alloc, lines, is_sound)? != verdict {
+        if judge_lines(alloc, words, is_sound, lines)? != verdict {
             return Ok(Some(number));
         }
     }
@@ -477,9 +746,15 @@ fn first_other(alloc: Global, rows: &[Judged], is_sound: bool) -> Result<Option<
 
 #[test]
 fn transcripts_are_judged(rt: HostRuntime) -> Result<(), Fail> {
-    let other = first_other(rt.alloc(), &JUDGED, true)?;
-    assert_eq!(rt; other, None, "erased at first");
-    let other = first_other(rt.alloc(), &JUDGED_FOREIGN, false)?;
-    assert_eq!(rt; other, None, "none of a device's");
+    for (words, is_sound, rows) in [
+        (PLAIN, true, JUDGED.as_slice()),
+        (PLAIN, false, &JUDGED_FOREIGN),
+        (HOLDS_ONE, true, &JUDGED_HOLDS_ONE),
+        (HOLDS_TWO, true, &JUDGED_HOLDS_TWO),
+        (HOST_DECIDES, true, &JUDGED_HOST_DECIDES),
+    ] {
+        let other = first_other(rt.alloc(), words, is_sound, rows)?;
+        assert_eq!(rt; other, None, "{words}, a sound chip: {is_sound}");
+    }
     Ok(())
 }

@@ -5,17 +5,16 @@ use Rattle.flat_unit.specs.Print.{print}
 use Rattle.trace_replay.specs.Run.{CountsFault, SinkEnds, SourceEnds}
 use Rattle.trace_replay.specs.declared.status.Status.TheVariants.{Done, BadLine}
 use Rattle.trace_replay.proofs.Runs.{ran_begins, ran_more, ends_done, ends_unread, ends_bad, ends_last, ends_unwritten, sink_ended, source_ended}
-use Rattle.trace_replay.proofs.Transcripts.{ends_in_source}
+use Rattle.trace_replay.proofs.Transcripts.{counts_of, ends_in_source}
 use Rattle.hpb_device.specs.State.{DeviceState}
-use Rattle.trace_replay.specs.Moments.{Standing}
-use Rattle.trace_replay.specs.Transcript.{AreCounts}
+use Rattle.trace_replay.specs.Moments.{AreCountsOf, Standing}
 use Rattle.trace_replay.specs.Writes.{HasWrittenUpTo}
 use Rattle.trace_replay.proofs.Written.{all_written, keeps_same}
 use Rattle.trace_replay.proofs.program.replay.Goals as goal
 
 pub loop-number-init : goal.loop-number-init
 loop-number-init g c = record {
-  ran = ran_begins c.args.device.now _ _ _ c.requires.begun c.requires.uncounted c.requires.scanned c.requires.some_page c.requires.fresh;
+  ran = ran_begins c.args.device.now _ _ _ c.requires.begun c.requires.uncounted c.requires.hints c.requires.counted c.requires.scanned c.requires.some_page c.requires.fresh;
   at_end = λ ended. absurd (false≢true (sym (ap (λ (r : ReaderState). r.ended) c.requires.unread) ∙ ended));
   source_same = refl;
   sink_same = refl;
@@ -38,7 +37,7 @@ returns-in-Ended-clause-run g c =
     let turn = c.in-Ended.ensures.turn c.args.device.now _ ran.moment ran.shows.0 ran.shows.1 in
     let few : c.loop-number.number ≤ 1000000 = omega (arith, c.loop-number-test.true) in
     let at = subst (λ (d : DeviceState). Standing c.args.device.now d ran.moment) (sym turn.1) ran.shows.0 in
-    ends_done _ _ _ _ _ _ _ _ _ c.loop-number.number _ ran at c.take_turn.new.device.counts c.end_of_trace.result (record { steps = at.steps; moved = at.moved }) few (ends_in_source _ _ _ turn.0)
+    ends_done _ _ _ _ _ _ _ _ _ c.loop-number.number _ ran at c.take_turn.new.device.counts c.end_of_trace.result (counts_of c.args.device.now c.take_turn.new.device ran.moment at) few (ends_in_source _ _ _ turn.0)
     (c.end_of_trace.ensures.ends _ (print ran.moment.events) turn.2)
 
 pub returns-in-Ended-clause-source_faults : goal.returns-in-Ended-clause-source_faults
@@ -63,7 +62,7 @@ returns-in-Unread-clause-run g c =
     let few : c.loop-number.number ≤ 1000000 = omega (arith, c.loop-number-test.true) in
     let held = c.in-Unread.ensures.unread refl in
     let at = subst (λ (d : DeviceState). Standing c.args.device.now d ran.moment) (sym turn.1) ran.shows.0 in
-    ends_unread _ _ AreCounts _ _ _ _ _ _ c.loop-number.number _ ran at few
+    ends_unread _ _ (AreCountsOf c.args.device.now) _ _ _ _ _ _ c.loop-number.number _ ran at few
     (record { held = c.take_turn.new.buffers.reader.held; within = held.0; size = held.1; follows = turn.0 }) turn.2
 
 pub returns-in-Unread-clause-source_faults : goal.returns-in-Unread-clause-source_faults
@@ -112,7 +111,7 @@ returns-in-Done-clause-run g c =
     let last = rw c.in-Done.is at (c.end_long.ensures.ends _ (print ran.moment.events) ran.shows.1) in
     let whole : HasWrittenUpTo (g.K.Sink.written c.args.sink.now) (g.K.Sink.written c.end_long.new.sink) (print ran.moment.events) c.end_long.new.buffers.output =
     rw (c.end_long.ensures.written c.in-Done.is) (all_written _ _ (print ran.moment.events) last.0) in
-    ends_done _ _ _ _ _ _ _ _ _ c.loop-number.number _ ran ran.shows.0 c.loop-number.device.counts c.end_of_trace-in-Done.result (record { steps = ran.shows.0.steps; moved = ran.shows.0.moved }) (omega (arith, all)) last.1
+    ends_done _ _ _ _ _ _ _ _ _ c.loop-number.number _ ran ran.shows.0 c.loop-number.device.counts c.end_of_trace-in-Done.result (counts_of c.args.device.now c.loop-number.device ran.moment ran.shows.0) (omega (arith, all)) last.1
     (c.end_of_trace-in-Done.ensures.ends _ (print ran.moment.events) whole)
 
 pub returns-in-Done-clause-source_faults : goal.returns-in-Done-clause-source_faults

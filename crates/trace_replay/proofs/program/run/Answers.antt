@@ -2,13 +2,13 @@ use Rattle.trace_replay.proofs.Headline.{drains_all, ends_by_text, shows_by_text
 use Rattle.trace_replay.proofs.program.run.Goals as goal
 
 pub returns-clause-reads_allowed : goal.returns-clause-reads_allowed
-returns-clause-reads_allowed g c replays planned sound = tells_allowed _ _ _ _ _ _ _ _ _ _ _ c.run_command.result.status planned (c.run_command.ensures.run replays) sound
+returns-clause-reads_allowed g c replays planned sound = tells_allowed _ _ _ _ _ _ _ _ _ _ _ _ c.run_command.result.status planned (c.run_command.ensures.run replays) sound
 
 pub returns-clause-reads_good : goal.returns-clause-reads_good
-returns-clause-reads_good g c replays planned sound = tells_good _ _ _ _ _ _ _ _ _ _ _ c.run_command.result.status planned (c.run_command.ensures.run replays) sound
+returns-clause-reads_good g c replays planned sound = tells_good _ _ _ _ _ _ _ _ _ _ _ _ c.run_command.result.status planned (c.run_command.ensures.run replays) sound
 
 pub returns-clause-unready : goal.returns-clause-unready
-returns-clause-unready g c replays planned unsound = tells_unready _ _ _ _ _ _ _ _ _ _ _ c.run_command.result.status planned (c.run_command.ensures.run replays) unsound
+returns-clause-unready g c replays planned unsound = tells_unready _ _ _ _ _ _ _ _ _ _ _ _ c.run_command.result.status planned (c.run_command.ensures.run replays) unsound
 
 pub returns-clause-drained : goal.returns-clause-drained
 returns-clause-drained g c replays done = drains_all _ _ _ _ _ _ _ _ _ 1000000 c.run_command.result.status (c.run_command.ensures.run replays) done

@@ -18,6 +18,8 @@ returns-clause-serves g c start before p at printed =
       foreign = c.reset.ensures.foreign;
       entries = c.reset.ensures.entries;
       listings = c.reset.ensures.listings;
+      counted = c.reset.ensures.counted;
+      hints = c.reset.ensures.hints;
     } in
     reset_leads start c.args.device.now c.reset.new.self before _ _ c.push_event.new.self p was at (c.in_ok-make_room.ensures.text before (print p.events) printed) c.push_event.ensures
 

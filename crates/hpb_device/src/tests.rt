@@ -18,7 +18,7 @@ mod scripts;
 mod setups;
 
 /// A device of one unit of 20 blocks, whose regions and subregions are large, over an erased chip of 32 pages that was
-/// scanned.
+/// scanned. Its host decides what it holds.
 const SCANNED: Setup = Setup {
     geometry: Geometry {
         blocks: 8,
@@ -190,9 +190,7 @@ fn check(
     lines: &str,
     more: &str,
 ) -> Result<(), Fail> {
-    let mut bench = setup.bench(alloc)?;
-    run(rt, alloc, &mut bench, lines)?;
-    run(rt, alloc, &mut bench, more)
+    run(rt, alloc, &mut setup.bench(alloc)?, lines, more)
 }
 
 /// Makes the calls of each paragraph, over a device of its own.
@@ -211,8 +209,8 @@ fn check_cases(rt: &impl Abort, alloc: Global) -> Result<(), Fail> {
     Ok(())
 }
 
-/// Makes calls where the first of these calls of the chip fails, and goes on by the first paragraph, and so on for each.
-/// The last paragraph is for all further calls too.
+/// Makes calls where each of these calls of the chip fails in turn, and then those of the next paragraph, or of all of
+/// them where none is left.
 fn check_failures(
     rt: &impl Abort,
     alloc: Global,
@@ -222,13 +220,9 @@ fn check_failures(
     paragraphs: &str,
 ) -> Result<(), Fail> {
     let mut rest = paragraphs.split("\n\n");
-    let mut more = "";
     for fail_at in first..end {
-        more = rest.next().unwrap_or(more);
-        let setup = Setup {
-            fail_at: [fail_at, 0, 0],
-            ..*setup
-        };
+        let more = rest.next().unwrap_or(paragraphs);
+        let setup = setup.failing(fail_at);
         check(rt, alloc, &setup, lines, more)?;
     }
     Ok(())

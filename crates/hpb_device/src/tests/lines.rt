@@ -142,49 +142,65 @@ fn send(alloc: Global, bench: &mut Bench, words: &str, told: &mut Vec<u8>) -> Re
     Ok(())
 }
 
-/// What the device waits for.
-fn waits(bench: &Bench) -> &'static [u8] {
-    match bench.waits() {
-        Waits::Nothing => b"nothing",
-        Waits::Host => b"host",
-        Waits::Step => b"step",
-    }
+/// Scans the chip, and adds the number of steps.
+fn scan(bench: &mut Bench, told: &mut Vec<u8>) -> Result<(), Fail> {
+    told.extend_from_slice(&bench.scan()?.to_be_bytes())?;
+    Ok(())
+}
+
+/// Adds what the device waits for.
+fn wait(bench: &Bench, told: &mut Vec<u8>) -> Result<(), Fail> {
+    let word = match bench.waits() {
+        Waits::Nothing => "nothing",
+        Waits::Host => "host",
+        Waits::Step => "step",
+    };
+    told.extend_from_slice(word.as_bytes())?;
+    Ok(())
 }
 
 /// Makes the calls of a line, and adds what they tell and send: `U` hands a UPIU to the device, `W` makes a whole write,
 /// `S` makes a step, `C` one of the collector, `D` steps until the device waits, `X` collects until nothing is left to
-/// collect, `P` scans the chip and tells the number of steps, `R` resets the device, `N` hands it 32 commands, `B` tells the byte of each block, `#` compares the counts,
-/// and `?` tells what the device waits for.
+/// collect, `P` scans the chip and tells the number of steps, `R` resets the device, `N` hands it 32 commands, `B` tells
+/// the byte of each block, `#` compares the counts, and `?` tells what the device waits for.
 fn call(alloc: Global, bench: &mut Bench, line: &str, told: &mut Vec<u8>) -> Result<(), Fail> {
     let words = line.get(1..).unwrap_or("");
     match line.as_bytes().first().copied().unwrap_or(0) {
-        b'U' => send(alloc, bench, words, told)?,
-        b'W' => write(bench, words, told)?,
+        b'U' => send(alloc, bench, words, told),
+        b'W' => write(bench, words, told),
         b'S' => {
             let stepped = bench.step();
-            tell(bench, stepped, told)?;
+            tell(bench, stepped, told)
         }
         b'C' => {
             let stepped = bench.collect();
-            tell(bench, stepped, told)?;
+            tell(bench, stepped, told)
         }
-        b'D' => drain(bench, told)?,
-        b'X' => collect(bench, told)?,
-        b'P' => told.extend_from_slice(&bench.scan()?.to_be_bytes())?,
-        b'R' => bench.reset(),
-        b'N' => fill(bench, told)?,
-        b'B' => push_blocks(alloc, bench, told)?,
-        b'#' => push_other_counts(bench, words, told)?,
-        b'?' => told.extend_from_slice(waits(bench))?,
-        b'=' => {}
-        _ => return Err(Fail::new("no call")),
+        b'D' => drain(bench, told),
+        b'X' => collect(bench, told),
+        b'P' => scan(bench, told),
+        b'R' => {
+            bench.reset();
+            Ok(())
+        }
+        b'N' => fill(bench, told),
+        b'B' => push_blocks(alloc, bench, told),
+        b'#' => push_other_counts(bench, words, told),
+        b'?' => wait(bench, told),
+        b'=' => Ok(()),
+        _ => Err(Fail::new("no call")),
     }
-    Ok(())
 }
 
-/// Makes the calls of these lines. What each tells and sends stands behind `>`.
-pub fn run(rt: &impl Abort, alloc: Global, bench: &mut Bench, lines: &str) -> Result<(), Fail> {
-    for line in lines.lines() {
+/// Makes the calls of these lines and then of those. What each tells and sends stands behind `>`.
+pub fn run(
+    rt: &impl Abort,
+    alloc: Global,
+    bench: &mut Bench,
+    lines: &str,
+    more: &str,
+) -> Result<(), Fail> {
+    for line in lines.lines().chain(more.lines()) {
         let (calls, answer) = line.split_once(" > ").unwrap_or((line, ""));
         let mut told = Vec::new(alloc);
         let mut expected = Vec::new(alloc);

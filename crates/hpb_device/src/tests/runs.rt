@@ -27,12 +27,9 @@ type Made = Option<(ChipOp, bool)>;
 impl Run {
     /// A run over an erased chip that was scanned, of whose calls this one fails.
     fn new(alloc: Global, most: u32, fail_at: u64) -> Result<Run, Fail> {
-        let setup = Setup {
-            fail_at: [fail_at, 0, 0],
-            ..SCANNED
-        };
+        let bench = SCANNED.failing(fail_at).bench(alloc)?;
         Ok(Run {
-            bench: setup.bench(alloc)?,
+            bench,
             last: [0; 20],
             turn: 1,
             most,
@@ -181,17 +178,6 @@ impl Run {
         Err(Fail::new("no call of the chip"))
     }
 
-    /// Makes the calls that the write needs to end.
-    fn finish(&mut self) -> Result<(), Fail> {
-        for _call in 0..100 {
-            if self.bench.waits() == Waits::Nothing {
-                return Ok(());
-            }
-            let _made = self.call()?;
-        }
-        Err(Fail::new("no end of the write"))
-    }
-
     /// The entry of each block, where it isn't `u64::MAX`.
     fn entries(&mut self, alloc: Global) -> Result<[u64; 20], Fail> {
         let mut cdb = [0; 16];
@@ -252,7 +238,13 @@ impl Run {
     /// Whether many writes keep the blocks, alone or with calls of the collector between.
     fn is_kept_by_writes(&mut self, alloc: Global, collects: bool) -> Result<bool, Fail> {
         self.calls(20_000, collects)?;
-        self.finish()?;
+        for _call in 0..100 {
+            // the last write ends
+            if self.bench.waits() == Waits::Nothing {
+                break;
+            }
+            let _made = self.call()?;
+        }
         let [written, moved, erased] = self.made;
         let are_many = written > 2000 && moved > 2000 && erased > 1000;
         Ok(are_many && self.is_kept(alloc)? && self.is_kept_by_a_reset(alloc)?)
@@ -283,8 +275,13 @@ impl Run {
         Ok(made)
     }
 
-    /// Whether these calls of the chip are made, and the one that fails, at this place, is made again.
-    fn is_made_again(&mut self, calls: &[ChipOp], place: usize) -> Result<bool, Fail> {
+    /// Whether these calls of the chip are made, the one that fails, at this place, is made again, and the blocks are kept.
+    fn is_kept_by_a_failure(
+        &mut self,
+        alloc: Global,
+        calls: &[ChipOp],
+        place: usize,
+    ) -> Result<bool, Fail> {
         for (number, op) in calls.iter().copied().enumerate() {
             if number == place && self.chip_call()? != (op, true) {
                 return Ok(false);
@@ -293,27 +290,47 @@ impl Run {
                 return Ok(false);
             }
         }
-        Ok(true)
+        self.is_kept_by_a_reset(alloc)
     }
 }
 
-/// The number of calls after which a reset doesn't keep the blocks.
+/// Whether many writes keep the blocks.
+fn writes_keep(alloc: Global, collects: bool) -> Result<bool, Fail> {
+    Run::new(alloc, 2, 0)?.is_kept_by_writes(alloc, collects)
+}
+
+/// Whether a reset after so many calls keeps the blocks.
+fn a_reset_keeps(alloc: Global, count: u32) -> Result<bool, Fail> {
+    Run::new(alloc, 2, 0)?.is_kept_by_resets(alloc, count)
+}
+
+/// The calls of the chip where none fails.
+fn whole_calls(alloc: Global) -> Result<Vec<ChipOp>, Fail> {
+    Run::new(alloc, 1, 0)?.chip_calls(alloc)
+}
+
+/// Whether the blocks are kept where one of these calls of the chip fails.
+fn a_failure_keeps(alloc: Global, calls: &[ChipOp], place: usize) -> Result<bool, Fail> {
+    // the scan makes 32 calls
+    let fail_at = (place as u64).saturating_add(33);
+    Run::new(alloc, 1, fail_at)?.is_kept_by_a_failure(alloc, calls, place)
+}
+
+/// The first number of calls after which a reset doesn't keep the blocks.
 fn lost_by_a_reset(alloc: Global) -> Result<Option<u32>, Fail> {
     for count in 0..400 {
-        if !Run::new(alloc, 2, 0)?.is_kept_by_resets(alloc, count)? {
+        if !a_reset_keeps(alloc, count)? {
             return Ok(Some(count));
         }
     }
     Ok(None)
 }
 
-/// The call of the chip after whose failure the write isn't made again.
+/// The first call of the chip whose failure doesn't keep the blocks.
 fn lost_by_a_failure(alloc: Global) -> Result<Option<usize>, Fail> {
-    let calls = Run::new(alloc, 1, 0)?.chip_calls(alloc)?;
+    let calls = whole_calls(alloc)?;
     for place in 0..100usize {
-        // the scan made 32 calls
-        let mut run = Run::new(alloc, 1, place as u64 + 33)?;
-        if !run.is_made_again(&calls, place)? || !run.is_kept_by_a_reset(alloc)? {
+        if !a_failure_keeps(alloc, &calls, place)? {
             return Ok(Some(place));
         }
     }
@@ -322,21 +339,24 @@ fn lost_by_a_failure(alloc: Global) -> Result<Option<usize>, Fail> {
 
 #[test]
 fn overwritten_blocks_are_kept(rt: HostRuntime) -> Result<(), Fail> {
-    for collects in [false, true] {
-        let mut run = Run::new(rt.alloc(), 2, 0)?;
-        assert!(rt; run.is_kept_by_writes(rt.alloc(), collects)?, "{collects}");
-    }
+    let kept = (
+        writes_keep(rt.alloc(), false)?,
+        writes_keep(rt.alloc(), true)?,
+    );
+    assert!(rt; kept == (true, true));
     Ok(())
 }
 
 #[test]
 fn a_reset_after_each_call_keeps_the_blocks(rt: HostRuntime) -> Result<(), Fail> {
-    assert_eq!(rt; lost_by_a_reset(rt.alloc())?, None);
+    let lost = lost_by_a_reset(rt.alloc())?;
+    assert!(rt; lost.is_none(), "{lost:?}");
     Ok(())
 }
 
 #[test]
 fn a_call_that_failed_for_a_write_is_made_again(rt: HostRuntime) -> Result<(), Fail> {
-    assert_eq!(rt; lost_by_a_failure(rt.alloc())?, None);
+    let lost = lost_by_a_failure(rt.alloc())?;
+    assert!(rt; lost.is_none(), "{lost:?}");
     Ok(())
 }

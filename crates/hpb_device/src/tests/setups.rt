@@ -20,8 +20,16 @@ pub struct Setup {
 }
 
 impl Setup {
+    /// The same where this call of the chip fails.
+    pub fn failing(&self, fail_at: u64) -> Setup {
+        Setup {
+            fail_at: [fail_at, 0, 0],
+            ..*self
+        }
+    }
+
     /// The chip.
-    pub fn chip(&self, alloc: Global) -> Result<MemFlash, Fail> {
+    fn chip(&self, alloc: Global) -> Result<MemFlash, Fail> {
         if !self.geometry.is_within_limits() {
             return Err(Fail::new("no chip"));
         }

@@ -94,15 +94,24 @@ impl Run {
         let upiu = self.bench.upiu();
         let kind = upiu.first().copied();
         let status = upiu.get(7).copied();
-        let sense = (upiu.get(36).copied(), upiu.get(46).copied());
-        let is_whole = self.programmed == n;
+        let sense = (
+            upiu.get(36).copied(),
+            upiu.get(46).copied(),
+            upiu.get(47).copied(),
+        );
+        let is_bare = upiu.len() == 32;
+        let is_whole = self.programmed == n && is_bare;
         if kind == Some(0x31) {
-            return self.told(stepped.failed.is_none(), None);
+            let is_alone = stepped.failed.is_none() && stepped.moved.is_none();
+            return self.told(is_alone, None);
+        }
+        if kind != Some(0x21) {
+            return self.told(false, None);
         }
         self.come = 0;
         self.programmed = 0;
         if let Some(op) = stepped.failed {
-            let is_failure = status == Some(2) && sense == (Some(3), Some(0x0C));
+            let is_failure = status == Some(2) && sense == (Some(3), Some(0x0C), Some(0));
             return self.told(is_failure, Some((op, true)));
         }
         self.turn = self.turn.wrapping_mul(1_103_515_245).wrapping_add(12_345);
@@ -128,10 +137,10 @@ impl Run {
     fn collected(&mut self, stepped: Stepped) -> Result<Made, Fail> {
         let [_, _, _, _, erased] = self.bench.counts();
         if let Some(op) = stepped.failed {
-            return self.told(true, Some((op, true)));
+            return self.told(!stepped.sent, Some((op, true)));
         }
         if stepped.idle {
-            return self.told(true, None);
+            return self.told(stepped.moved.is_none(), None);
         }
         if let Some((lun, lba)) = stepped.moved {
             self.room = self.room.saturating_sub(1);
@@ -209,7 +218,7 @@ impl Run {
             let entry = entries[lba as usize];
             let read = block(alloc, &mut self.bench, transfer(0x28, lba, 1))?;
             let again = block(alloc, &mut self.bench, read_by_entry(lba, entry))?;
-            if read != last || again != last {
+            if read != last || again != last || entry == u64::MAX && last != 0 {
                 return Ok(false);
             }
             if entry == u64::MAX {
@@ -244,6 +253,9 @@ impl Run {
                 break;
             }
             let _made = self.call()?;
+        }
+        if self.bench.waits() != Waits::Nothing {
+            return Err(Fail::new("no end of the write"));
         }
         let [written, moved, erased] = self.made;
         let are_many = written > 2000 && moved > 2000 && erased > 1000;

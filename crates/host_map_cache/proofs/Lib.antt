@@ -1,0 +1,15 @@
+pub mod Entries
+pub mod Found
+pub mod Moves
+pub mod Sizes
+pub mod Claims
+pub mod Places
+pub mod Ranges
+pub mod Made
+pub mod Every
+pub mod Lists
+pub mod Kept
+pub mod Wants
+pub mod Fresh
+pub mod Words
+pub mod BitLists

@@ -1,0 +1,18 @@
+use Rattle.std.proofs.Common.{sym, refl}
+use Rattle.host_map_cache.proofs.Moves.{at_found, promoted-found, promoted-none, AreSlots-promoted}
+use Rattle.host_map_cache.proofs.slots.Slots.to_front.Goals as goal
+
+pub invariant_of-self : goal.invariant_of-self
+invariant_of-self c = rw c.promote.ensures.entries
+    (AreSlots-promoted _ _ _ _ (at_found c.args.region _ _ _ _ _ _ c.self.invariant c.in-Some.ensures.found) c.find_slot.ensures.apart _ _ _ c.self.invariant)
+
+pub returns-in-Some : goal.returns-in-Some
+returns-in-Some c = rw (
+  ← c.self.view_is,
+  c.promote.ensures.entries,
+  promoted-found _ _ _ _ (at_found c.args.region _ _ _ _ _ _ c.self.invariant c.in-Some.ensures.found)
+      c.find_slot.ensures.apart,
+) refl
+
+pub returns-in_default : goal.returns-in_default
+returns-in_default c = rw (← c.self.view_is) (rw (promoted-none c.args.region _ _ (sym c.in_default.ensures.found)) refl)

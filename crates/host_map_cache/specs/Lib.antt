@@ -1,0 +1,4 @@
+pub mod Shapes
+pub mod Words
+pub mod Regions
+pub mod Cache

@@ -1,8 +1,6 @@
 -- What one more event adds to the counts of a history.
-use Rattle.std.proofs.Common.{◌≡◌, ℕ, ◌+◌, ◌/◌, ◌≤◌, Bool, true, false, List, [], ◌∷◌, Option, Some, None, refl, ◌∙◌, ap, subst, arith, ◌==◌}
+use Rattle.std.proofs.Common.{◌≡◌, ℕ, ◌+◌, ◌≤◌, Bool, true, false, List, [], ◌∷◌, Option, Some, None, refl, ◌∙◌, ap, subst, arith, ◌==◌}
 use Rattle.std.specs.Prelude.{sum_by, if◌then◌else◌}
-use Rattle.hpb_cdb.specs.declared.cdb.Cdb.{Cdb}
-use Rattle.hpb_cdb.specs.declared.cdb.Cdb.TheVariants.{Prefetch}
 use Rattle.flash_pages.specs.Place.{Place}
 use Rattle.upiu_wire.specs.declared.kind.Kind.{Kind}
 use Rattle.upiu_wire.specs.declared.kind.Kind.TheVariants.{DataIn, ReadyToTransfer}
@@ -12,9 +10,8 @@ use Rattle.flat_unit.specs.declared.event.Event.{Event}
 use Rattle.flat_unit.specs.declared.event.Event.TheVariants.{Host, Device}
 use Rattle.flat_unit.specs.Causes.{sense_code}
 use Rattle.flat_unit.specs.Contents.{Leaving, answered, leaving, leaving_all, next_place, shown, shown_at, shown_by_kind}
-use Rattle.flat_unit.specs.Counts.{ends_with, is_at_work, next_entry, one_if}
+use Rattle.flat_unit.specs.Counts.{ends_with, is_at_work, one_if}
 use Rattle.flat_unit.specs.History.{History, ◌▹◌}
-use Rattle.flat_unit.specs.Lists.{Fetched, entry_of_block, lists_after, lists_left, lists_left_by}
 use Rattle.flat_unit.specs.Queue.{after_reply, on_after, tasks_after}
 use Rattle.flat_unit.specs.Reply.{effects_of, has_tag, reply_of}
 use Rattle.flat_unit.specs.Sizes.{Sizes}
@@ -85,20 +82,10 @@ dropped_ends_none tasks = from tasks 0
     from [] a = refl
     from (task ∷ tasks) a = from tasks (a + 0) ∙ omega arith
 
--- where no list of entries is kept, a task that isn't answered GOOD leaves none
-pub bad_leaves_none : (l : Leaving) (command : Cdb) → l.good ≡ false → lists_left_by [] l command ≡ []
-bad_leaves_none l (Prefetch lba id len) bad = rw bad refl
-bad_leaves_none l _ bad = refl
-
--- the entry of the block that the first task sends next, where no list is kept
-pub next_entry_is : (s : Sizes) (e : History) (task : Task) (others : List Task) → tasks_after s e ≡ task ∷ others → lists_after s e ≡ []
-    → next_entry s e (tasks_after s e) ≡ entry_of_block [] task task.command (task.sent / s.block)
-next_entry_is s e task others is none = ap (next_entry s e) is ∙ ap (λ (lists : List Fetched). entry_of_block lists task task.command (task.sent / s.block)) none
-
 -- what a reply ends isn't answered GOOD
-ends_none : (tasks : List Task) (ls : List Leaving) → EndsBadly tasks ls → (sum_by blocks_ended ls ≡ 0) × (lists_left [] ls ≡ [])
-ends_none tasks [] badly = (refl, refl)
-ends_none tasks (l ∷ []) badly = (rw (badly.1) refl, bad_leaves_none l l.task.command badly.1)
+ends_none : (tasks : List Task) (ls : List Leaving) → EndsBadly tasks ls → sum_by blocks_ended ls ≡ 0
+ends_none tasks [] badly = refl
+ends_none tasks (l ∷ []) badly = rw (badly.1) refl
 ends_none tasks (l ∷ m ∷ ls) badly = absurd badly
 
 reply_is_no_data : (v : Upiu) (kind : Kind) → IsReply v kind → IsNoData kind
@@ -111,7 +98,6 @@ pub record IsOwed (s : Sizes) (e : History) (bytes out : List ℕ) : Type 0 wher
   pub owes : owed s (e ▹ Host bytes) ≡ Device out ∷ due
   pub shows : shown s (tasks_after s (e ▹ Host bytes)) (Device out) ≡ None
   pub ended : sum_by blocks_ended (leaving (tasks_after s (e ▹ Host bytes)) (Device out)) ≡ 0
-  pub lists : lists_left [] (leaving (tasks_after s (e ▹ Host bytes)) (Device out)) ≡ []
 
 pub reply_is_owed : (s : Sizes) (e : History) (bytes : List ℕ) (v : Upiu) → reply_of s (on_after e) (tasks_after s e) bytes ≡ Some v → IsOwed s e bytes (upiu_out v)
 reply_is_owed s e bytes v is =
@@ -124,8 +110,7 @@ reply_is_owed s e bytes v is =
       due = effects_of s (on_after e) (tasks_after s e) bytes;
       owes = owes_reply s e bytes v is;
       shows = shows_none s (tasks_after s (e ▹ Host bytes)) v (reply_is_no_data v v.kind found.1);
-      ended = ap (sum_by blocks_ended) leaves ∙ none.0;
-      lists = ap (lists_left []) leaves ∙ none.1;
+      ended = ap (sum_by blocks_ended) leaves ∙ none;
     }
 
 -- 44h comes of a device that may not have looked at its whole chip

@@ -1,5 +1,5 @@
 -- The commands that a device serves, and the bytes that each moves (SBC; the HPB commands are this project's own).
-use Rattle.std.specs.Prelude.{ℕ, ◌+◌, ◌*◌, Bool, true, false, not, ◌&&◌, ◌||◌, List, Result, Err, if◌then◌else◌, ◌==◌, min, slice_index}
+use Rattle.std.specs.Prelude.{ℕ, ◌+◌, ◌*◌, Bool, true, false, List, Result, Err, if◌then◌else◌, ◌==◌, min, slice_index}
 use Rattle.std.specs.List.{list_any}
 use Rattle.hpb_cdb.specs.declared.cdb.Cdb.{Cdb}
 use Rattle.hpb_cdb.specs.declared.cdb.Cdb.TheVariants.{HpbRead, ReadBuffer, Prefetch, InactOne, InactAll}
@@ -10,18 +10,13 @@ use Rattle.hpb_cdb.specs.Read.{cdb_of}
 use Rattle.flat_unit.specs.Sizes.{Sizes, limits_of}
 use Rattle.flat_unit.specs.Work.{Work, ReadsBlocks, WritesBlocks, TakesList, ListsEntries, TellsCapacity, work_of}
 
--- WRITE BUFFER in the mode of a prefetch
-abbrev pub begins_prefetch : List ℕ → Bool
-begins_prefetch cdb = (slice_index cdb 0 == 0xFA) && (slice_index cdb 1 == 0x02)
-
--- the device serves the command of these bytes
-abbrev pub serves_command : Sizes → List ℕ → Bool
-serves_command s cdb =
-    list_any (λ (opcode : ℕ). opcode == slice_index cdb 0) s.opcodes && (s.prefetches || not (begins_prefetch cdb))
+-- the device serves the command with this opcode
+abbrev pub serves_opcode : Sizes → ℕ → Bool
+serves_opcode s opcode = list_any (λ (served : ℕ). served == opcode) s.opcodes
 
 -- the command of a CDB, where the device serves it
 abbrev pub command_of : Sizes → List ℕ → Result Cdb CdbFault
-command_of s cdb = if serves_command s cdb then cdb_of (limits_of s) cdb else Err Opcode
+command_of s cdb = if serves_opcode s (slice_index cdb 0) then cdb_of (limits_of s) cdb else Err Opcode
 
 -- the commands of HPB, which a device refuses while HPB is off
 abbrev pub is_hpb : Cdb → Bool

@@ -4,8 +4,7 @@ use Rattle.hpb_cdb.specs.declared.limits.Limits.{Limits}
 
 -- its logical units, and the blocks of each; the bytes of a block; the tasks that it keeps at most; the pages of the
 -- chip that it looks at after a reset (0 where it looks at none), and those of an erase block; the blocks of a region
--- and of a subregion; the opcodes that it serves, and whether it serves the prefetch of WRITE BUFFER, QUERY REQUESTs and
--- TASK MANAGEMENT REQUESTs
+-- and of a subregion; the opcodes that it serves, and whether it serves QUERY REQUESTs and TASK MANAGEMENT REQUESTs
 pub record Sizes : Type 0 where
   pub luns : ℕ
   pub units : ℕ
@@ -16,7 +15,6 @@ pub record Sizes : Type 0 where
   pub per_region : ℕ
   pub per_sub : ℕ
   pub opcodes : List ℕ
-  pub prefetches : Bool
   pub queries : Bool
   pub manages : Bool
 

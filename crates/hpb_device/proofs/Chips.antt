@@ -1,5 +1,5 @@
 -- What a step makes of the chip: it stays sound, and keeps the number of its pages.
-use Rattle.std.proofs.Common.{◌≡◌, ℕ, ◌+◌, ◌*◌, ◌<◌, List, length, slice_range, arith, ap, refl, sym, subst, ◌∙◌}
+use Rattle.std.proofs.Common.{◌≡◌, ℕ, ◌+◌, ◌*◌, ◌<◌, List, length, slice_range, arith, ap, refl, sym, subst, ◌∙◌, true}
 use Rattle.flash_pages.specs.Chip.{Page}
 use Rattle.flash_pages.specs.Place.{IsPlace}
 use Rattle.flash_pages.specs.Sound.{ChipOk}
@@ -15,6 +15,7 @@ use Rattle.hpb_device.specs.declared.advance.Internal.TheVariants.{Missed, Progr
 use Rattle.hpb_device.specs.declared.task.Task.{Task}
 use Rattle.hpb_device.specs.Advance.{Advances, Programs, nth_place}
 use Rattle.hpb_device.specs.Task.{IsTaskOk}
+use Rattle.flat_unit.specs.Command.{is_write}
 use Rattle.hpb_device.proofs.Commands.{is_written, writes}
 
 -- the chip of a store that can be collected from
@@ -46,17 +47,17 @@ whole_collected old new moved before step =
     whole_along old _ new.pages (sym (ap (λ (t : Step). t.state.chip) step)) (whole_of old _ before after)
 
 -- the place of a block that is programmed
-place_of_write : (old : StoreState) (lim : Limits) (task : Task) → IsTaskOk old.luns lim task → lim.units ≡ old.units → 4096 * task.programmed < task.come
+place_of_write : (old : StoreState) (lim : Limits) (task : Task) → IsTaskOk old.luns lim task → lim.units ≡ old.units → is_write task.command ≡ true → 4096 * task.programmed < task.come
     → IsPlace old.luns old.units (nth_place task task.programmed)
-place_of_write old lim task ok units more =
-    let command = is_written task.command (4096 * task.programmed) (omega (arith, more, ok.within.come, ok.within.asked)) in
-    let write = writes old.luns lim command.0 command.1 task ok command.2 in
-    record { lun = ok.accepted.lun; lba = omega (arith, write.within, write.first, write.takes, more, ok.within.come, ok.within.asked, units) }
+place_of_write old lim task ok units write more =
+    let command = is_written task.command write in
+    let blocks = writes old.luns lim command.0 command.1 task ok command.2 in
+    record { lun = ok.accepted.lun; lba = omega (arith, blocks.within, blocks.first, blocks.takes, more, ok.within.come, ok.within.asked, units) }
 
 whole_programmed : (old new : StoreState) (lim : Limits) (held : List ℕ) (task rest : Task) (start : ℕ) → IsTaskOk old.luns lim task → lim.units ≡ old.units
     → IsCollectableIn old (collecting old) → Programs old new held task rest start → IsWholeAfter old new.pages
 whole_programmed old new lim held task rest start ok units before programs =
-    let place = place_of_write old lim task ok units programs.more in
+    let place = place_of_write old lim task ok units programs.write programs.more in
     let after = write_keeps old.geometry old.luns old.units (collecting old) before (nth_place task task.programmed) (slice_range held start (start + 4096)) place programs.numbered programs.writes.enough in
     whole_along old _ new.pages (ap (λ (s : CollectState). s.chip) programs.writes.at_frontier) (whole_of old _ before after)
 

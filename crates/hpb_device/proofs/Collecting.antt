@@ -59,6 +59,7 @@ pub record IsMoved (old new : DeviceState) (moved : Moved) : Type 0 where
   pub unit : unit_of old.store.luns old.store.units new.store.pages ≡ unit_of old.store.luns old.store.units old.store.pages
   pub same : IsSameStore old.store new.store
   pub shape : new.shape ≡ old.shape
+  pub lists : new.lists ≡ old.lists
   pub tasks : new.tasks ≡ old.tasks
   pub held : new.held ≡ old.held
   pub erased : new.counts.erased ≡ (counted_moved old.counts moved).erased
@@ -160,21 +161,22 @@ module _ (old new : DeviceState) where
           ap is_some now ∙ sym (ap is_some was)
 
   -- the entries that were listed
-  entries_after : (moved : Moved) (e : History) (ev : Event) → IsMoved old new moved → TriedStale (sizes_of old) e old.tasks → (s : Sizes) → s ≡ sizes_of old → TriedStale s e new.tasks
-  entries_after moved e ev is tried s same = rw (same, is.tasks) tried
+  entries_after : (moved : Moved) (e : History) (ev : Event) → IsMoved old new moved → TriedStale (sizes_of old) e old.lists old.tasks → (s : Sizes) → s ≡ sizes_of old
+      → TriedStale s e new.lists new.tasks
+  entries_after moved e ev is tried s same = rw (same, is.lists, is.tasks) tried
 
   pub moved_entries : (moved : Moved) (out : List ℕ) (e : History) → IsMoved old new moved → EntriesStand old e → EntriesStand new (moves_on moved out e)
-  moved_entries Idle out e is stand = entries_now old new e is.same is.shape (rw (is.changes) stand.fresh) (rw (is.tasks) stand.tried)
-  moved_entries ReadPage out e is stand = entries_now old new e is.same is.shape (rw (is.changes) stand.fresh) (rw (is.tasks) stand.tried)
+  moved_entries Idle out e is stand = entries_now old new e is.same is.shape (rw (is.changes) stand.fresh) (rw (is.lists, is.tasks) stand.tried)
+  moved_entries ReadPage out e is stand = entries_now old new e is.same is.shape (rw (is.changes) stand.fresh) (rw (is.lists, is.tasks) stand.tried)
   moved_entries (MovedPage lun lba) out e is stand =
       entries_now old new (e ▹ MovedEvent lun lba) is.same is.shape
       (fresh_collected (sizes_of old) (current old.store.pages) (current new.store.pages) e lun lba
       (λ p place other. page_of_others old.store.luns old.store.units (record { lun = lun; lba = lba }) is.changes p other) stand.fresh)
-      (rw (is.tasks) (tried_stays (sizes_of old) e (MovedEvent lun lba) old.tasks (λ p. refl) stand.tried))
+      (rw (is.lists, is.tasks) (tried_stays (sizes_of old) e (MovedEvent lun lba) old.lists old.tasks (λ p. refl) stand.tried))
   moved_entries (ErasedBlock block) out e is stand =
       entries_now old new e is.same is.shape
       (fresh_along (sizes_of old) (current old.store.pages) (current new.store.pages) e (λ p place. is.changes.kept p) stand.fresh)
-      (rw (is.tasks) stand.tried)
+      (rw (is.lists, is.tasks) stand.tried)
 
   -- what was listed tells of the pages
   kept_tasks : (moved : Moved) → IsMoved old new moved → (page_of : Place → Option ℕ) (had : Place → Bool) (e : History) → HasPages (sizes_of old) had (kept_now old) page_of e
@@ -232,6 +234,7 @@ pub record IsCollecting (old new : DeviceState) : Type 0 where
   pub standing : IsStanding old.store
   pub same : IsSame old.store new.store
   pub shape : new.shape ≡ old.shape
+  pub lists : new.lists ≡ old.lists
   pub tasks : new.tasks ≡ old.tasks
   pub held : new.held ≡ old.held
 
@@ -250,6 +253,7 @@ module _ (old new : DeviceState) (is : IsCollecting old new) where
     unit = unit;
     same = serves_of old new is;
     shape = is.shape;
+    lists = is.lists;
     tasks = is.tasks;
     held = is.held;
     erased = ap (λ (c : Counts). c.erased) counts;
@@ -280,6 +284,7 @@ module _ (old new : DeviceState) (is : IsCollecting old new) where
   moves_on_by moved result busy step changes calls hits faults regions counts result_is = on_false result.idle (record {
     phase = is.ready;
     same = is.same;
+    lists = is.lists;
     tasks = is.tasks;
     held = is.held;
     calls = calls;

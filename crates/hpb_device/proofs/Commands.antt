@@ -3,13 +3,13 @@ use Rattle.std.specs.Prelude.{IsSome, is_some, if◌then◌else◌}
 use Rattle.std.specs.declared.option.Option.{Option}
 use Rattle.std.proofs.lemmas.Bool.{false≢true}
 use Rattle.std.proofs.lemmas.Bool.Decides.{nat_tests}
-use Rattle.std.proofs.Common.{◌≡◌, ◌⊎◌, ◌∙◌, Bool, true, false, not, ◌&&◌, ◌==◌, ◌-◌, nat_lt, min, ℕ, ◌+◌, ◌*◌, ◌/◌, ◌%◌, ◌^◌, ◌<◌, ◌≤◌, List, [], ◌∷◌, drop, Some, None, refl, subst, ap, arith, inl, inr}
+use Rattle.std.proofs.Common.{◌≡◌, ◌⊎◌, ◌∙◌, Bool, true, false, not, ◌&&◌, ◌-◌, nat_lt, min, ℕ, ◌+◌, ◌*◌, ◌/◌, ◌%◌, ◌^◌, ◌<◌, ◌≤◌, List, [], ◌∷◌, drop, Some, None, refl, subst, ap, arith, inl, inr, sym}
 use Rattle.hpb_outside.specs.Faults.{Rose}
 use Rattle.flash_pages.specs.Place.{Place}
 use Rattle.flash_pages.specs.Unit.{current}
 use Rattle.flash_store.specs.Store.{StoreState, collecting}
 use Rattle.hpb_cdb.specs.declared.cdb.Cdb.{Cdb}
-use Rattle.hpb_cdb.specs.declared.cdb.Cdb.TheVariants.{Read, Write, HpbRead}
+use Rattle.hpb_cdb.specs.declared.cdb.Cdb.TheVariants.{Read, Write, HpbRead, Prefetch}
 use Rattle.hpb_cdb.specs.declared.limits.Limits.{Limits}
 use Rattle.hpb_device.specs.declared.task.Task.{Task}
 use Rattle.upiu_wire.specs.Upiu.{Upiu}
@@ -18,14 +18,51 @@ use Rattle.hpb_device.specs.declared.reply.Reply.TheVariants.{Check}
 use Rattle.hpb_device.specs.declared.reply.Cause.TheVariants.{DataNotAsked, ReadFailed}
 use Rattle.hpb_device.specs.declared.advance.FailedCall.TheVariants.{MappedRead}
 use Rattle.hpb_device.specs.Accept.{EndsFirst, IsNextPiece, TakesPiece}
-use Rattle.hpb_device.specs.Left.{steps_of}
-use Rattle.hpb_device.specs.Task.{WaitsForData, head_of, IsTaskOk, IsServed, HasTried, bytes_given, bytes_taken, tries_entry, tries_entry_of}
-use Rattle.hpb_device.specs.Advance.{Fails, ReadsBlocks, check, first_block, reads_page}
+use Rattle.hpb_device.specs.Left.{steps_of, tries_by}
+use Rattle.hpb_device.specs.Work.{work_of}
+use Rattle.entry_lists.specs.Lists.{EntryList}
+use Rattle.flat_unit.specs.Command.{is_write}
+use Rattle.flat_unit.specs.Contents.{next_place as place_after}
+use Rattle.flat_unit.specs.Sends.{asked_at_once}
+use Rattle.flat_unit.specs.Sizes.{Sizes}
+use Rattle.flat_unit.specs.Task.{Task as Waiting}
+use Rattle.std.specs.Bool.{OnTrue}
+use Rattle.hpb_device.specs.Task.{AreProgrammed, WaitsForData, head_of, IsTaskOk, IsServed, bytes_given, bytes_taken, entry_of, to_try}
+use Rattle.hpb_device.specs.Advance.{Fails, ReadsBlocks, check, first_block, next_place}
 
--- a command that takes data is a WRITE(10)
-pub is_written : (command : Cdb) (n : ℕ) → n < bytes_taken command → (lba : ℕ) × (k : ℕ) × (command ≡ Write lba k)
-is_written (Write lba k) n more = (lba, k, refl)
-is_written _ n more = absurd (omega arith)
+-- a command that writes blocks is a WRITE(10)
+pub is_written : (command : Cdb) → is_write command ≡ true → (lba : ℕ) × (k : ℕ) × (command ≡ Write lba k)
+is_written (Write lba k) is = (lba, k, refl)
+is_written _ is = absurd (false≢true is)
+
+-- a command that takes data has no entry for a block, and reads none
+pub record TakesData (command : Cdb) : Type 0 where
+  pub no_entry : (lists : List (Option EntryList)) (lun k : ℕ) → entry_of lists lun command k ≡ None
+  pub no_place : (s : Sizes) (task : Waiting) → place_after s task command ≡ None
+
+pub takes_data : (command : Cdb) (n : ℕ) → n < bytes_taken command → TakesData command
+takes_data (Write lba k) n more = record { no_entry = λ lists lun k. refl; no_place = λ s task. refl }
+takes_data (Prefetch lba id len) n more = record { no_entry = λ lists lun k. refl; no_place = λ s task. refl }
+takes_data _ n more = absurd (omega arith)
+
+-- a write asks for whole blocks
+pub asked_whole : (command : Cdb) (asked n : ℕ) {lba : ℕ} → command ≡ Write lba n → (asked % 4096 ≡ 0) ⊎ (asked ≡ bytes_taken command) → asked % 4096 ≡ 0
+asked_whole command asked n is whole = elim whole [
+  | inl part ↦ part
+  | inr all ↦ let taken : bytes_taken command ≡ 4096 * n = ap bytes_taken is in omega (arith, all, taken)
+]
+
+-- the blocks of a write that have come were programmed
+pub all_programmed : (task : Task) → is_write task.command ≡ true → AreProgrammed task → 4096 * task.programmed ≡ task.come
+all_programmed task write are = subst (λ (b : Bool). OnTrue b (4096 * task.programmed ≡ task.come)) write are
+
+-- it asks for its data as the flat unit has it
+pub asks_flat : (s : Sizes) (task : Waiting) (command : Cdb) (lim : Limits) → s.block ≡ 4096 → IsServed lim command → task.asked < bytes_taken command
+    → (task.asked % 4096 ≡ 0) ⊎ (task.asked ≡ bytes_taken command)
+    → (Rattle.flat_unit.specs.Command.bytes_taken s command ≡ bytes_taken command) × (min 32768 (bytes_taken command - task.asked) ≡ asked_at_once s task command)
+asks_flat s task (Write lba n) lim block served more whole = (ap (λ (b : ℕ). b * n) block, sym (ap (λ (b : ℕ). min (8 * b) (b * n - task.asked)) block))
+asks_flat s task (Prefetch lba id len) lim block served more whole = (refl, omega (arith, served, more, whole))
+asks_flat s task _ lim block served more whole = absurd (omega arith)
 
 -- a write of so many blocks
 pub record Writes (lim : Limits) (task : Task) (lba n : ℕ) : Type 0 where
@@ -35,7 +72,6 @@ pub record Writes (lim : Limits) (task : Task) (lba n : ℕ) : Type 0 where
   pub gives : task.given ≡ 0
   pub takes : bytes_taken task.command ≡ 4096 * n
   pub none_sent : task.sent ≡ 0
-  pub untried : tries_entry task ≡ false
 
 pub writes : (luns : ℕ) (lim : Limits) (lba n : ℕ) (task : Task) → IsTaskOk luns lim task → task.command ≡ Write lba n → Writes lim task lba n
 writes luns lim lba n task ok is =
@@ -48,7 +84,6 @@ writes luns lim lba n task ok is =
       gives = gives;
       takes = ap bytes_taken is;
       none_sent = omega (arith, ok.within.sent, gives);
-      untried = ap (λ (c : Cdb). tries_entry_of c task) is;
     }
 
 -- a read of so many blocks
@@ -63,7 +98,7 @@ pub record Reads (lim : Limits) (task : Task) : Type 0 where
 reads_by : (lim : Limits) (command : Cdb) → ReadsBlocks command → IsServed lim command
     → (n : ℕ) × (bytes_given lim command ≡ 4096 * n) × (first_block command + n ≤ lim.units) × (bytes_taken command ≡ 0)
 reads_by lim (Read lba n) is served = (n, refl, served, refl)
-reads_by lim (HpbRead lba entry n id) is served = (n, refl, served, refl)
+reads_by lim (HpbRead lba entry n id) is served = (n, refl, served.0, refl)
 reads_by lim _ is served = absurd is
 
 pub reads : (luns : ℕ) (lim : Limits) (task : Task) → IsTaskOk luns lim task → ReadsBlocks task.command → Reads lim task
@@ -81,46 +116,44 @@ some_true : (o : Option ℕ) → IsSome o → is_some o ≡ true
 some_true None is = absurd (false≢true is)
 some_true (Some n) is = refl
 
-pub reads_looked_up : (old : StoreState) (task : Task) (lba : ℕ) → tries_entry task ≡ false → first_block task.command ≡ lba
-    → (let p : Place = record { lun = task.lun; lba = lba + task.sent / 4096 } in IsSome (current old.pages p)) → reads_page old task ≡ true
-reads_looked_up old task lba untried first is = rw (untried, first) (some_true _ is)
+pub page_looked_up : (old : StoreState) (task : Task) (lba : ℕ) → first_block task.command ≡ lba
+    → (let p : Place = record { lun = task.lun; lba = lba + task.sent / 4096 } in IsSome (current old.pages p)) → is_some (current old.pages (next_place task)) ≡ true
+page_looked_up old task lba first is = rw (first) (some_true _ is)
 
 -- a read of a block that was looked up failed
-pub read_fails : (old new : StoreState) (task : Task) (reply : Reply) → ReadsBlocks task.command → task.sent < task.given → tries_entry task ≡ false → reads_page old task ≡ true
+pub read_fails : (old new : StoreState) (task : Task) (reply : Reply) → ReadsBlocks task.command → task.sent < task.given
     → Rose old.faults new.faults → collecting new ≡ collecting old → reply ≡ check task ReadFailed → Fails old new task MappedRead reply
-read_fails old new task reply is more untried due rose kept answer = record { due = (is, more, untried, due); cause = rose; left = kept; answer = answer }
+read_fails old new task reply is more rose kept answer = record { due = (is, more); cause = rose; left = kept; answer = answer }
 
--- a command that has an entry to try reads a block, and has sent none
-pub record Tries (lim : Limits) (command : Cdb) (task : Task) : Type 0 where
-  pub reads : ReadsBlocks command
-  pub none_sent : task.sent ≡ 0
-  pub some : 0 < bytes_given lim command
-  pub untried : HasTried command task
+-- an entry that is to be tried is that of a block that is left, and wasn't tried yet
+pub record Tries (entry : Option ℕ) (x : ℕ) (task : Task) : Type 0 where
+  pub is : entry ≡ Some x
+  pub more : task.sent < task.given
+  pub untried : task.tried ≡ false
 
-both : (a b : Bool) → (a && b) ≡ true → (a ≡ true) × (b ≡ true)
-both true b is = (refl, is)
-both false b is = absurd (false≢true is)
-
-pub tries_of : (lim : Limits) (command : Cdb) (task : Task) → tries_entry_of command task ≡ true → Tries lim command task
-tries_of lim (HpbRead lba entry n id) task is =
-    let at = both (task.sent == 0) (nat_lt 0 n && not task.tried) is in
-    let more = both (nat_lt 0 n) (not task.tried) at.1 in
-    let none : task.sent ≡ 0 = grind (arith, nat_tests, at.0) in
-    let some : 0 < n = grind (arith, nat_tests, more.0) in
-    record { reads = tt; none_sent = none; some = omega (arith, some); untried = none }
-tries_of lim _ task is = absurd (false≢true is)
-
-no_tries : (command : Cdb) (task : Task) → (task.sent == 0) && not task.tried ≡ false → tries_entry_of command task ≡ false
-no_tries (HpbRead lba entry n id) task is = swap (task.sent == 0) (nat_lt 0 n) (not task.tried) is
+pub tries_of : (entry : Option ℕ) (x : ℕ) (task : Task) → to_try entry task ≡ Some x → Tries entry x task
+tries_of entry x task is = by_more (nat_lt task.sent task.given) task.tried refl refl is
   where
-    swap : (a b c : Bool) → (a && c) ≡ false → (a && (b && c)) ≡ false
-    swap false b c is = refl
-    swap true true c is = is
-    swap true false c is = refl
-no_tries _ task is = refl
+    by_more : (a b : Bool) → nat_lt task.sent task.given ≡ a → task.tried ≡ b → (if a && not b then entry else None) ≡ Some x → Tries entry x task
+    by_more true false more untried is = record { is = is; more = grind (arith, nat_tests, more); untried = untried }
+    by_more true true more untried is = cc
+    by_more false b more untried is = cc
 
-one_at_most : (b : Bool) → 0 ≤ (if b then 1 else 0)
-one_at_most b = omega arith
+-- it is tried
+pub tries_now : (entry : Option ℕ) (task : Task) → task.sent < task.given → task.tried ≡ false → to_try entry task ≡ entry
+tries_now entry task more untried =
+    let left : nat_lt task.sent task.given ≡ true = grind (arith, nat_tests, more) in
+    rw (left, untried) refl
+
+-- none is to be tried where a block is left: the block has none, or it was tried in vain
+pub tries_none : (entry : Option ℕ) (task : Task) → task.sent < task.given → to_try entry task ≡ None → (entry ≡ None) ⊎ (task.tried ≡ true)
+tries_none entry task more is =
+    let left : nat_lt task.sent task.given ≡ true = grind (arith, nat_tests, more) in
+    by_tried task.tried refl (sym (ap (λ (b : Bool). if b && not task.tried then entry else None) left) ∙ is)
+  where
+    by_tried : (b : Bool) → task.tried ≡ b → (if true && not b then entry else None) ≡ None → (entry ≡ None) ⊎ (task.tried ≡ true)
+    by_tried true at is = inr at
+    by_tried false at is = inl is
 
 -- after one more block
 pub block_ok : (luns : ℕ) (lim : Limits) (task : Task) → IsTaskOk luns lim task → ReadsBlocks task.command → task.sent < task.given
@@ -136,7 +169,6 @@ block_ok luns lim task ok is more =
         programmed = ok.within.programmed;
         sent = omega (arith, more, r.gives, r.whole);
         whole_sent = inl (omega (arith, r.whole));
-        tried = tt;
       };
     }
 
@@ -144,14 +176,21 @@ pub block_fewer : (luns : ℕ) (lim : Limits) (task : Task) → IsTaskOk luns li
     → steps_of lim pages wait (record task { sent = task.sent + 4096; tried = false }) < steps_of lim pages wait task
 block_fewer luns lim task ok is more pages wait =
     let r = reads luns lim task ok is in
-    let later : ((task.sent + 4096) == 0) ≡ false = grind (arith, nat_tests) in
-    let none = no_tries task.command (record task { sent = task.sent + 4096; tried = false }) (ap (λ (b : Bool). b && true) later) in
-    let some = one_at_most (tries_entry task) in
-    rw none (omega (arith, more, r.gives, r.whole, ok.accepted.given, some))
+    let fewer = block_tries task.command task.sent task.tried in
+    omega (arith, more, r.gives, r.whole, ok.accepted.given, fewer)
+  where
+    one_less : (n sent : ℕ) (b : Bool) → n - (sent + 4096) / 4096 - 0 ≤ n - sent / 4096 - (if b then 1 else 0)
+    one_less n sent true = omega arith
+    one_less n sent false = omega arith
+
+    block_tries : (command : Cdb) (sent : ℕ) (tried : Bool) → tries_by (work_of command) (sent + 4096) false ≤ tries_by (work_of command) sent tried
+    block_tries (Read lba n) sent tried = one_less n sent tried
+    block_tries (HpbRead lba entry n id) sent tried = one_less n sent tried
+    block_tries _ sent tried = omega arith
 
 -- after an entry that was tried in vain
-pub missed_ok : (luns : ℕ) (lim : Limits) (task : Task) → IsTaskOk luns lim task → tries_entry task ≡ true → IsTaskOk luns lim (record task { tried = true })
-missed_ok luns lim task ok is = record {
+pub missed_ok : (luns : ℕ) (lim : Limits) (task : Task) → IsTaskOk luns lim task → IsTaskOk luns lim (record task { tried = true })
+missed_ok luns lim task ok = record {
   accepted = ok.accepted;
   within = record {
     asked = ok.within.asked;
@@ -160,22 +199,20 @@ missed_ok luns lim task ok is = record {
     programmed = ok.within.programmed;
     sent = ok.within.sent;
     whole_sent = ok.within.whole_sent;
-    tried = untried task.command (tries_of lim task.command task is).untried;
   };
 }
-  where
-    untried : (command : Cdb) → HasTried command task → HasTried command (record task { tried = true })
-    untried (HpbRead lba entry n id) none = none
-    untried _ none = absurd none
 
-pub missed_fewer : (lim : Limits) (task : Task) → tries_entry task ≡ true → (pages wait : ℕ) → steps_of lim pages wait (record task { tried = true }) < steps_of lim pages wait task
-missed_fewer lim task is pages wait =
-    let none = no_tries task.command (record task { tried = true }) (and_false (task.sent == 0)) in
-    rw (none, is) (omega arith)
+pub missed_fewer : (luns : ℕ) (lim : Limits) (task : Task) → IsTaskOk luns lim task → ReadsBlocks task.command → task.sent < task.given → task.tried ≡ false → (pages wait : ℕ)
+    → steps_of lim pages wait (record task { tried = true }) < steps_of lim pages wait task
+missed_fewer luns lim task ok is more untried pages wait =
+    let given : bytes_given lim task.command ≡ task.given = sym ok.accepted.given in
+    let fewer = one_try task.command task.sent is (omega (arith, more, given)) in
+    rw untried (omega (arith, fewer))
   where
-    and_false : (a : Bool) → (a && false) ≡ false
-    and_false true = refl
-    and_false false = refl
+    one_try : (command : Cdb) (sent : ℕ) → ReadsBlocks command → sent < bytes_given lim command → tries_by (work_of command) sent true < tries_by (work_of command) sent false
+    one_try (Read lba n) sent is more = omega (arith, more)
+    one_try (HpbRead lba entry n id) sent is more = omega (arith, more)
+    one_try _ sent is more = absurd is
 
 -- data that end a task came where it waited for others
 pub ends : (tasks : List Task) (reply : Reply) → EndsFirst tasks reply

@@ -1,5 +1,5 @@
 -- What a device counts fits its history with one more event, or with none.
-use Rattle.std.proofs.Common.{◌≡◌, ℕ, ◌+◌, ◌*◌, ◌^◌, ◌-◌, ◌≤◌, Bool, true, false, not, ◌&&◌, ◌||◌, min, List, [], ◌∷◌, Option, Some, None, refl, sym, ◌∙◌, ap, subst, arith}
+use Rattle.std.proofs.Common.{◌≡◌, ℕ, ◌+◌, ◌*◌, ◌^◌, ◌-◌, ◌≤◌, Bool, true, false, not, ◌&&◌, ◌||◌, min, List, [], ◌∷◌, Option, Some, None, sym, ◌∙◌, ap, subst, arith}
 use Rattle.std.specs.Prelude.{if◌then◌else◌, is_some, length, sum_by}
 use Rattle.flash_pages.specs.declared.chip.ChipOp.{ChipOp}
 use Rattle.flash_pages.specs.declared.chip.Geometry.{Geometry}
@@ -10,7 +10,6 @@ use Rattle.flat_unit.specs.declared.event.Event.TheVariants.{Host, Device, Reset
 use Rattle.flat_unit.specs.Contents.{Shown, leaving, shown}
 use Rattle.flat_unit.specs.Counts.{ends_with, has_entry_at, is_at_work, is_fresh_at, is_sent, next_entry, one_if, stretches, works}
 use Rattle.flat_unit.specs.History.{History, ◌▹◌}
-use Rattle.flat_unit.specs.Lists.{Fetched, lists_changed, lists_left}
 use Rattle.flat_unit.specs.Queue.{tasks_after}
 use Rattle.flat_unit.specs.Sizes.{Sizes}
 use Rattle.flat_unit.specs.Sound.{owed}
@@ -79,7 +78,6 @@ pub record Adds (s : Sizes) (e : History) (x : Event) (scanned scanned_now progr
   pub found : one_if (is_some (shown s (tasks_after s e) x)) ≤ lookups + entries
   pub none_else : lookups + entries ≤ one_if (is_some (shown s (tasks_after s e) x)) + one_if (ends_with 0x11 x (owed s e))
   pub moves_more : moves (e ▹ x) ≡ moves e + moved
-  pub lists : lists_changed (tasks_after s e) [] x ≡ []
 
 module _ (s : Sizes) (scanned scanned_now programmed programmed_now : ℕ) (counts now : Counts) (e : History) where
   -- one more event
@@ -103,7 +101,6 @@ module _ (s : Sizes) (scanned scanned_now programmed programmed_now : ℕ) (coun
     none_else = omega (arith, at.none_else, adds.none_else);
     moved = omega (arith, at.moved, adds.moves_more);
     steps = omega (arith, at.steps, adds.work);
-    no_lists = ap (λ (lists : List Fetched). lists_changed (tasks_after s e) lists x) at.no_lists ∙ adds.lists;
   }
 
   -- no more events
@@ -121,7 +118,6 @@ module _ (s : Sizes) (scanned scanned_now programmed programmed_now : ℕ) (coun
     none_else = at.none_else;
     moved = at.moved;
     steps = omega (arith, at.steps, work);
-    no_lists = at.no_lists;
   }
 
 module _ (s : Sizes) (scanned programmed : ℕ) (e : History) where
@@ -134,14 +130,13 @@ module _ (s : Sizes) (scanned programmed : ℕ) (e : History) where
     found = omega arith;
     none_else = omega arith;
     moves_more = omega arith;
-    lists = refl;
   }
 
   pub adds_failed : (op : ChipOp) (steps : ℕ) → Adds s e (CallFailed op) scanned scanned programmed programmed steps 0 0 0
-  adds_failed op steps = record { work = omega arith; fresh = omega arith; had = omega arith; found = omega arith; none_else = omega arith; moves_more = omega arith; lists = refl }
+  adds_failed op steps = record { work = omega arith; fresh = omega arith; had = omega arith; found = omega arith; none_else = omega arith; moves_more = omega arith }
 
   pub adds_moved : (lun lba steps : ℕ) → Adds s e (MovedEvent lun lba) scanned scanned programmed programmed steps 0 0 1
-  adds_moved lun lba steps = record { work = omega arith; fresh = omega arith; had = omega arith; found = omega arith; none_else = omega arith; moves_more = omega arith; lists = refl }
+  adds_moved lun lba steps = record { work = omega arith; fresh = omega arith; had = omega arith; found = omega arith; none_else = omega arith; moves_more = omega arith }
 
   -- a reset drops all tasks
   pub adds_reset : Adds s e Reset scanned 0 programmed 0 0 0 0 0
@@ -154,7 +149,6 @@ module _ (s : Sizes) (scanned programmed : ℕ) (e : History) where
         found = omega arith;
         none_else = omega arith;
         moves_more = omega arith;
-        lists = refl;
       }
 
   -- the steps of the scan count where the device begins to serve
@@ -185,9 +179,9 @@ module _ (s : Sizes) (scanned programmed : ℕ) (e : History) where
 
   -- a reply of the device
   pub adds_reply : (out : List ℕ) (due : List Event) → owed s e ≡ Device out ∷ due → shown s (tasks_after s e) (Device out) ≡ None
-      → sum_by blocks_ended (leaving (tasks_after s e) (Device out)) ≡ 0 → lists_left [] (leaving (tasks_after s e) (Device out)) ≡ []
+      → sum_by blocks_ended (leaving (tasks_after s e) (Device out)) ≡ 0
       → Adds s e (Device out) scanned scanned programmed programmed 0 0 0 0
-  adds_reply out due owes none ended lists =
+  adds_reply out due owes none ended =
       let unsent : one_if (is_sent (Device out) (owed s e)) ≡ 0 = ap (λ (xs : List Event). one_if (is_sent (Device out) xs)) owes in
       let idle : is_at_work (Device out) (owed s e) ≡ false = ap (is_at_work (Device out)) owes in
       let scan = scanned_idle out idle in
@@ -198,15 +192,14 @@ module _ (s : Sizes) (scanned programmed : ℕ) (e : History) where
         found = rw none (omega arith);
         none_else = omega arith;
         moves_more = omega arith;
-        lists = lists;
       }
 
   -- what a step sends that shows no block
   pub adds_sent : (out : List ℕ) (programmed_now lookups : ℕ) → steps_scanned s scanned (e ▹ Device out) ≤ steps_scanned s scanned e → shown s (tasks_after s e) (Device out) ≡ None
-      → sum_by blocks_ended (leaving (tasks_after s e) (Device out)) + programmed_now ≤ programmed → lists_left [] (leaving (tasks_after s e) (Device out)) ≡ []
+      → sum_by blocks_ended (leaving (tasks_after s e) (Device out)) + programmed_now ≤ programmed
       → lookups ≤ one_if (ends_with 0x11 (Device out) (owed s e))
       → Adds s e (Device out) scanned scanned programmed programmed_now 1 lookups 0 0
-  adds_sent out programmed_now lookups scan none ended lists failed =
+  adds_sent out programmed_now lookups scan none ended failed =
       let one = one_at_most (is_sent (Device out) (owed s e)) in
       let shows : one_if (is_some (shown s (tasks_after s e) (Device out))) ≡ 0 = ap (λ (o : Option Shown). one_if (is_some o)) none in
       record {
@@ -216,7 +209,6 @@ module _ (s : Sizes) (scanned programmed : ℕ) (e : History) where
         found = omega (arith, shows);
         none_else = omega (arith, shows, failed);
         moves_more = omega arith;
-        lists = lists;
       }
 
   -- a block that a step shows
@@ -240,7 +232,6 @@ module _ (s : Sizes) (scanned programmed : ℕ) (e : History) where
         found = omega (arith, read, all);
         none_else = omega (arith, read, all);
         moves_more = omega arith;
-        lists = ap (lists_left []) leaves;
       }
 
 -- a step of the collector

@@ -58,7 +58,7 @@ module _ (d now : DeviceState) (bytes : List ℕ) (e : History) (store : now.sto
       let owed = reply_is_owed s e bytes v is in
       let programmed = programmed_of now.tasks in
       let answered = counted_event s d.store.scanned d.store.scanned programmed programmed d.counts d.counts (e ▹ Host bytes) (Device (upiu_out v)) 0 0 0 0 (rise_none d.counts)
-      (adds_reply s d.store.scanned programmed (e ▹ Host bytes) (upiu_out v) owed.due owed.owes owed.shows owed.ended owed.lists) received in
+      (adds_reply s d.store.scanned programmed (e ▹ Host bytes) (upiu_out v) owed.due owed.owes owed.shows owed.ended) received in
       subst (λ (b : List ℕ). CountsStand now (e ▹ Host bytes ▹ Device b)) (sym sent) (received_now (e ▹ Host bytes ▹ Device (upiu_out v)) answered)
 
 -- a command that is kept has programmed nothing
@@ -132,7 +132,6 @@ begins_counts device whole tasks counts scanned =
         none_else = omega arith;
         moved = refl;
         steps = omega (arith, none, scanned);
-        no_lists = refl;
       };
     }
 

@@ -28,7 +28,6 @@ scanned = record {
   none_else = omega arith;
   moved = refl;
   steps = omega arith;
-  no_lists = refl;
 }
 
 scanned_by_four : AreCounted sizes 5 0 (counts 4 0) [] → ⊥
@@ -53,7 +52,6 @@ fits = record {
   none_else = omega arith;
   moved = refl;
   steps = omega arith;
-  no_lists = refl;
 }
 
 one_step_less : AreCounted sizes 32 0 (counts 36 1) read_back → ⊥
@@ -82,5 +80,4 @@ again = record {
   none_else = omega arith;
   moved = refl;
   steps = omega arith;
-  no_lists = refl;
 }

@@ -1,10 +1,9 @@
 -- What a device counts fits its history after a step.
-use Rattle.std.proofs.Common.{◌≡◌, ℕ, ◌+◌, ◌-◌, ◌*◌, ◌/◌, ◌^◌, ◌<◌, ◌≤◌, ◌==◌, Bool, true, false, not, ◌&&◌, nat_lt, List, [], ◌∷◌, drop, length, map, take, Some, None, refl, sym, ◌∙◌, ap, subst, arith, inl, inr}
+use Rattle.std.proofs.Common.{◌≡◌, ℕ, ◌+◌, ◌-◌, ◌*◌, ◌/◌, ◌^◌, ◌<◌, ◌≤◌, ◌==◌, Bool, true, false, List, [], ◌∷◌, drop, length, map, take, Some, None, refl, sym, ◌∙◌, ap, subst, arith, inl, inr, Option}
 use Rattle.std.specs.Prelude.{if◌then◌else◌, is_some, sum_by}
 use Rattle.std.specs.Bool.{OnTrue}
 use Rattle.std.specs.List.{AllByRecursion}
 use Rattle.std.proofs.lemmas.Bool.{false≢true}
-use Rattle.std.proofs.lemmas.Bool.Decides.{nat_tests}
 use Rattle.flash_pages.specs.declared.chip.ChipOp.{ChipOp}
 use Rattle.flash_pages.specs.declared.chip.ChipOp.TheVariants.{Read as ReadCall}
 use Rattle.flash_pages.specs.Place.{Place}
@@ -13,7 +12,7 @@ use Rattle.flash_store.specs.declared.answers.Phase.{Phase}
 use Rattle.flash_store.specs.declared.answers.Phase.TheVariants.{Scanning, Ready, Foreign}
 use Rattle.flash_store.specs.Store.{StoreState}
 use Rattle.hpb_cdb.specs.declared.cdb.Cdb.{Cdb}
-use Rattle.hpb_cdb.specs.declared.cdb.Cdb.TheVariants.{Read, Write, HpbRead, Prefetch}
+use Rattle.hpb_cdb.specs.declared.cdb.Cdb.TheVariants.{Write}
 use Rattle.hpb_cdb.specs.declared.limits.Limits.{Limits}
 use Rattle.hpb_sense.specs.Sense.{fixed_out}
 use Rattle.upiu_wire.specs.Upiu.{upiu_out}
@@ -21,11 +20,12 @@ use Rattle.upiu_wire.specs.Written.{response_upiu}
 use Rattle.flat_unit.specs.declared.event.Event.{Event}
 use Rattle.flat_unit.specs.declared.event.Event.TheVariants.{Device, Failed as CallFailed}
 use Rattle.flat_unit.specs.Causes.{sense_code}
-use Rattle.flat_unit.specs.Contents.{Leaving, Shown, leaving, next_place, shown}
-use Rattle.flat_unit.specs.Counts.{ends_with, is_fresh_at, one_if}
-use Rattle.flat_unit.specs.Entries.{is_fresh}
+use Rattle.flat_unit.specs.Contents.{Leaving, Shown, leaving, next_place as place_after, shown}
+use Rattle.flat_unit.specs.Counts.{ends_with, is_fresh_at, next_entry as next_entry_of, one_if}
 use Rattle.flat_unit.specs.History.{History, ◌▹◌, followed_by}
-use Rattle.flat_unit.specs.Lists.{entry_of_block, lists_left, lists_left_by}
+use Rattle.entry_lists.specs.Lists.{EntryList}
+use Rattle.flat_unit.specs.Command.{is_write}
+use Rattle.hpb_device.specs.Lists.{ListsStand}
 use Rattle.flat_unit.specs.Queue.{tasks_after}
 use Rattle.flat_unit.specs.Replays.{events_of}
 use Rattle.flat_unit.specs.Sizes.{Sizes}
@@ -33,14 +33,14 @@ use Rattle.flat_unit.specs.Sound.{owed}
 use Rattle.flat_unit.specs.Stands.{First}
 use Rattle.flat_unit.specs.Task.{Task as Waiting}
 use Rattle.flat_unit.specs.Writes.{blocks_ended, blocks_of_write}
-use Rattle.flat_unit.proofs.Counting.{data_leaves_none, next_entry_is, one_at_most, read_is_failed, response_ends, shows_next, shows_no_place, shows_none, transfer_leaves_none, unready_is_no_work}
+use Rattle.flat_unit.proofs.Counting.{data_leaves_none, one_at_most, read_is_failed, response_ends, shows_next, shows_no_place, shows_none, transfer_leaves_none, unready_is_no_work}
 use Rattle.flat_unit.proofs.History.{data-consistent}
 use Rattle.hpb_device.specs.declared.advance.FailedCall.TheVariants.{MappedRead, EntryRead, WriteStep}
 use Rattle.hpb_device.specs.declared.advance.Internal.TheVariants.{Missed, Programmed, Collected}
 use Rattle.hpb_device.specs.declared.advance.Progress.{Progress}
 use Rattle.hpb_device.specs.declared.advance.Progress.TheVariants.{Sends, Silent, Ended, Failed}
 use Rattle.hpb_device.specs.declared.advance.Transfer.{Transfer}
-use Rattle.hpb_device.specs.declared.advance.Transfer.TheVariants.{LookedUp, ByEntry, EntryList, UnitCapacity, Ready as ReadyTransfer}
+use Rattle.hpb_device.specs.declared.advance.Transfer.TheVariants.{LookedUp, ByEntry, EntryList as ListPiece, UnitCapacity, Ready as ReadyTransfer}
 use Rattle.hpb_device.specs.declared.counts.Counts.{Counts}
 use Rattle.hpb_device.specs.declared.device.Stepped.{Stepped}
 use Rattle.hpb_device.specs.declared.reply.Cause.{Cause}
@@ -48,35 +48,31 @@ use Rattle.hpb_device.specs.declared.reply.Cause.TheVariants.{ReadFailed, WriteF
 use Rattle.hpb_device.specs.declared.reply.Reply.{Reply}
 use Rattle.hpb_device.specs.declared.reply.Reply.TheVariants.{Check}
 use Rattle.hpb_device.specs.declared.task.Task.{Task}
-use Rattle.hpb_device.specs.Advance.{Advances, IsComplete, ReadsBlocks, SendsBlock, Transfers, capacity_of, check, entries_of, first_block, first_listed, nth_place}
+use Rattle.hpb_device.specs.Advance.{Advances, IsComplete, SendsBlock, ServesEntry, Transfers, capacity_of, check, entries_of, first_block, first_listed, next_place}
 use Rattle.hpb_device.specs.Calls.{EndsUnread, GoesOn, Leaves, Scans, StepsIn}
 use Rattle.hpb_device.specs.Counted.{AreCounted, CountsStand, steps_scanned}
 use Rattle.hpb_device.specs.Counts.{counted, counted_step}
-use Rattle.hpb_device.specs.Entries.{EntriesStand, IsStale, TriedStale}
+use Rattle.hpb_device.specs.Entries.{EntriesStand, IsStale, IsStaleAt, TriedStale}
 use Rattle.hpb_device.specs.Keeps.{waiting_of}
 use Rattle.hpb_device.specs.Limits.{limits_of}
 use Rattle.hpb_device.specs.Regions.{segment_told}
 use Rattle.hpb_device.specs.Reply.{cause_sense, reply_upiu, told_upiu}
 use Rattle.hpb_device.specs.Standing.{DeviceStands, group_of, programmed_of, sizes_of}
 use Rattle.hpb_device.specs.State.{DeviceState}
-use Rattle.hpb_device.specs.Task.{IsQueue, IsServed, IsTaskOk, IsWaiting, bytes_given, bytes_taken, tries_entry, tries_entry_of}
+use Rattle.hpb_device.specs.Task.{IsQueue, IsTaskOk, IsWaiting, bytes_taken, next_entry, to_try}
 use Rattle.hpb_device.proofs.Chips.{pages_of, whole_after}
 use Rattle.hpb_device.proofs.Collecting.{moves_on}
-use Rattle.hpb_device.proofs.Commands.{is_written, reads, tries_of}
+use Rattle.hpb_device.proofs.Commands.{takes_data, tries_none, tries_of}
 use Rattle.hpb_device.proofs.Counting.{Rises, adds_failed, adds_sent, adds_shown, counted_event, counted_moves, counted_quiet, counts_now, rise_entry, rise_lookup, rise_moving, rise_none, rise_step, scanned_idle, scanned_more, scanned_sent}
 use Rattle.hpb_device.proofs.Going.{check_tells}
+use Rattle.hpb_device.proofs.Fetching.{entry_is}
 use Rattle.hpb_device.proofs.StepStands.{first_is, flat, none_programmed, reads_at}
 use Rattle.hpb_device.proofs.Stepping.{IsWell, serves_same}
 
--- no list of entries is kept for a command that is served
-served_leaves_none : (lim : Limits) (l : Leaving) (command : Cdb) → IsServed lim command → lists_left_by [] l command ≡ []
-served_leaves_none lim l (Prefetch lba id len) served = absurd served
-served_leaves_none lim l _ served = refl
-
--- the blocks of a write are those that it takes
-write_takes : (command : Cdb) → 4096 * blocks_of_write command ≡ bytes_taken command
-write_takes (Write lba n) = refl
-write_takes _ = refl
+-- the blocks of a write are those that it takes, and those that were programmed once all have come
+write_takes : (command : Cdb) (task : Task) → task.come ≡ bytes_taken command → OnTrue (is_write command) (4096 * task.programmed ≡ task.come) → blocks_of_write command ≤ task.programmed
+write_takes (Write lba n) task come programmed = omega (arith, come, programmed)
+write_takes _ task come programmed = omega arith
 
 -- the first task of a device that stands at a history
 pub record Head (d : DeviceState) (task : Task) (others : List Task) (e : History) : Type 0 where
@@ -105,44 +101,21 @@ head_failed d task others e op head = record {
   nothing = ap (λ (due : List Event). drop 1 due) head.nothing;
 }
 
--- an entry that was looked up in vain, or that is no entry of the block, isn't fresh
-unfresh : (s : Sizes) (e : History) (lim : Limits) (task : Task) (t : Waiting) (command : Cdb) (k : ℕ) (block : List ℕ) → ReadsBlocks command → tries_entry_of command task ≡ false
-    → (k ≡ 0 → task.sent ≡ 0) → 0 < bytes_given lim command → OnTrue task.tried (IsStale s e task command)
-    → is_fresh_at s e (Some (record { place = record { lun = task.lun; lba = first_block command + k }; block = block })) (entry_of_block [] t command k) ≡ false
-unfresh s e lim task t (Read lba n) k block is untried first some stale = refl
-unfresh s e lim task t (HpbRead lba entry n id) k block is untried first some stale = by_block (k == 0) refl
+-- where none is to be tried, the entry of the next block isn't fresh
+stale_or_none : (s : Sizes) (e : History) (lists : List (Option EntryList)) (task : Task) → task.sent < task.given → to_try (next_entry lists task) task ≡ None
+    → OnTrue task.tried (IsStale s e lists task) → IsStale s e lists task
+stale_or_none s e lists task more untried stale = elim (tries_none (next_entry lists task) task more untried) [
+  | inl none ↦ subst (IsStaleAt s e (next_place task)) (sym none) tt
+  | inr tried ↦ on task.tried tried stale
+]
   where
-    place_at : ℕ → Place
-    place_at l = record { lun = task.lun; lba = l }
-
-    all_tried : (a b c : Bool) → a ≡ true → b ≡ true → (a && (b && not c)) ≡ false → c ≡ true
-    all_tried true true true one two is = refl
-    all_tried true true false one two is = absurd (false≢true (sym is))
-    all_tried true false c one two is = absurd (false≢true two)
-    all_tried false b c one two is = absurd (false≢true one)
-
     on : (b : Bool) {P : Type 0} → b ≡ true → OnTrue b P → P
     on true is p = p
     on false is p = absurd (false≢true is)
 
-    by_block : (b : Bool) → (k == 0) ≡ b
-        → is_fresh_at s e (Some (record { place = record { lun = task.lun; lba = lba + k }; block = block })) (if b then Some entry else None) ≡ false
-    by_block false is = refl
-    by_block true is =
-        let zero : k ≡ 0 = grind (arith, nat_tests, is) in
-        let none : task.sent ≡ 0 = first zero in
-        let none_sent : (task.sent == 0) ≡ true = grind (arith, nat_tests, none) in
-        let more : 0 < n = omega (arith, some) in
-        let blocks : nat_lt 0 n ≡ true = grind (arith, nat_tests, more) in
-        let tried : task.tried ≡ true = all_tried (task.sent == 0) (nat_lt 0 n) task.tried none_sent blocks untried in
-        let same : lba + k ≡ lba = omega (arith, zero) in
-        ap (λ (l : ℕ). is_fresh s e (place_at l) entry) same ∙ on task.tried tried stale
-unfresh s e lim task t _ k block is untried first some stale = absurd is
-
--- a block whose entry is tried has one
-has_entry : (t : Waiting) (task : Task) (command : Cdb) → tries_entry_of command task ≡ true → is_some (entry_of_block [] t command 0) ≡ true
-has_entry t task (HpbRead lba entry n id) is = refl
-has_entry t task _ is = absurd (false≢true is)
+unfresh : (s : Sizes) (e : History) (place : Place) (block : List ℕ) (entry : Option ℕ) → IsStaleAt s e place entry → is_fresh_at s e (Some (record { place = place; block = block })) entry ≡ false
+unfresh s e place block (Some entry) stale = stale
+unfresh s e place block None stale = refl
 
 -- a step of the first task
 module _ (d : DeviceState) (task : Task) (others : List Task) (e : History) (head : Head d task others e) where
@@ -158,10 +131,15 @@ module _ (d : DeviceState) (task : Task) (others : List Task) (e : History) (hea
   abbrev done : ℕ
   done = programmed_of d.tasks
 
+  -- the entry of the next block is that of the history
+  next_is : ListsStand d e → next_entry_of s e (tasks_after s e) ≡ next_entry d.lists task
+  next_is lists = ap (next_entry_of s e) head.tasks
+      ∙ entry_is d.lists s e t task.command (task.sent / 4096) (limits_of d.shape) lists head.ok.accepted.lun head.ok.accepted.served
+
   -- the next block of a read
   module _ (rest : Task) (out : List ℕ) (sends : SendsBlock d.store task rest out) where
     abbrev block : List ℕ
-    block = block_of d.store.pages (nth_place task (task.sent / 4096))
+    block = block_of d.store.pages (next_place task)
 
     abbrev shown_now : Shown
     shown_now = record { place = record { lun = task.lun; lba = first_block task.command + task.sent / 4096 }; block = block }
@@ -178,30 +156,21 @@ module _ (d : DeviceState) (task : Task) (others : List Task) (e : History) (hea
     leaves_none : leaving (tasks_after s e) (Device out) ≡ []
     leaves_none = ap (λ (b : List ℕ). leaving (tasks_after s e) (Device b)) sends.sent ∙ data_leaves_none (tasks_after s e) task.lun task.tag task.sent block
 
-    looked_up : (now : Counts) → s.pages ≤ scanned → tries_entry task ≡ false → OnTrue task.tried (IsStale s e task task.command) → Rises d.counts now 1 1 0 0
+    looked_up : (now : Counts) → ListsStand d e → s.pages ≤ scanned → to_try (next_entry d.lists task) task ≡ None → OnTrue task.tried (IsStale s e d.lists task) → Rises d.counts now 1 1 0 0
         → AreCounted s scanned done d.counts e → AreCounted s scanned done now (e ▹ Device out)
-    looked_up now whole untried stale rise at =
-        let moves = reads d.store.luns (limits_of d.shape) task head.ok sends.reads in
-        let none : task.sent / 4096 ≡ 0 → task.sent ≡ 0 = λ zero. omega (arith, zero, moves.whole) in
-        let some : 0 < bytes_given (limits_of d.shape) task.command = omega (arith, sends.more, head.ok.accepted.given) in
-        let old = unfresh s e (limits_of d.shape) task t task.command (task.sent / 4096) block sends.reads untried none some stale in
-        let o = entry_of_block [] t task.command (task.sent / 4096) in
-        let fresh : one_if (is_fresh_at s e (Some shown_now) o) ≤ 0 = let none = ap one_if old in omega (arith, none) in
+    looked_up now lists whole untried stale rise at =
+        let old = unfresh s e (next_place task) block (next_entry d.lists task) (stale_or_none s e d.lists task sends.more untried stale) in
+        let fresh : one_if (is_fresh_at s e (Some shown_now) (next_entry d.lists task)) ≤ 0 = let none = ap one_if old in omega (arith, none) in
         counted_event s scanned scanned done done d.counts now e (Device out) 1 1 0 0 rise
-        (adds_shown s scanned done e out shown_now o 1 0 whole shows_block (next_entry_is s e t (map waiting_of others) head.tasks at.no_lists) leaves_none fresh (omega arith) refl) at
+        (adds_shown s scanned done e out shown_now (next_entry d.lists task) 1 0 whole shows_block (next_is lists) leaves_none fresh (omega arith) refl) at
 
-    by_entry : (now : Counts) → s.pages ≤ scanned → tries_entry task ≡ true → Rises d.counts now 1 0 1 0
+    by_entry : (now : Counts) (x : ℕ) → ListsStand d e → s.pages ≤ scanned → next_entry d.lists task ≡ Some x → Rises d.counts now 1 0 1 0
         → AreCounted s scanned done d.counts e → AreCounted s scanned done now (e ▹ Device out)
-    by_entry now whole tries rise at =
-        let none = (tries_of (limits_of d.shape) task.command task tries).none_sent in
-        let first : task.sent / 4096 ≡ 0 = omega (arith, none) in
-        let o = entry_of_block [] t task.command (task.sent / 4096) in
-        let entry : is_some o ≡ true = ap (λ (k : ℕ). is_some (entry_of_block [] t task.command k)) first ∙ has_entry t task task.command tries in
-        let had : 1 ≤ one_if (is_some o) = let one = ap one_if entry in omega (arith, one) in
-        let next = next_entry_is s e t (map waiting_of others) head.tasks at.no_lists in
-        let fresh = one_at_most (is_fresh_at s e (Some shown_now) o) in
+    by_entry now x lists whole tries rise at =
+        let had : 1 ≤ one_if (is_some (next_entry d.lists task)) = let one = ap (λ (o : Option ℕ). one_if (is_some o)) tries in omega (arith, one) in
+        let fresh = one_at_most (is_fresh_at s e (Some shown_now) (next_entry d.lists task)) in
         counted_event s scanned scanned done done d.counts now e (Device out) 1 0 1 0 rise
-        (adds_shown s scanned done e out shown_now o 0 1 whole shows_block next leaves_none fresh had refl) at
+        (adds_shown s scanned done e out shown_now (next_entry d.lists task) 0 1 whole shows_block (next_is lists) leaves_none fresh had refl) at
 
   -- what a command sends that is no block of a read
   other_sent : (now : Counts) (out : List ℕ) → s.pages ≤ scanned → shown s (tasks_after s e) (Device out) ≡ None → leaving (tasks_after s e) (Device out) ≡ [] → Rises d.counts now 1 0 0 0
@@ -209,7 +178,7 @@ module _ (d : DeviceState) (task : Task) (others : List Task) (e : History) (hea
   other_sent now out whole shows leaves rise at =
       let ended : sum_by blocks_ended (leaving (tasks_after s e) (Device out)) ≡ 0 = ap (sum_by blocks_ended) leaves in
       counted_event s scanned scanned done done d.counts now e (Device out) 1 0 0 0 rise
-      (adds_sent s scanned done e out done 0 (scanned_sent s scanned done e out whole) shows (omega (arith, ended)) (ap (lists_left []) leaves) (omega arith)) at
+      (adds_sent s scanned done e out done 0 (scanned_sent s scanned done e out whole) shows (omega (arith, ended)) (omega arith)) at
 
   -- a RESPONSE to it
   responded : (now : Counts) (out : List ℕ) (status residual : ℕ) (segment : List ℕ) (lookups : ℕ) → out ≡ upiu_out (response_upiu task.lun task.tag status residual segment)
@@ -222,13 +191,11 @@ module _ (d : DeviceState) (task : Task) (others : List Task) (e : History) (hea
       let leaves : leaving (tasks_after s e) (Device out) ≡ l ∷ [] =
       ap (λ (b : List ℕ). leaving (tasks_after s e) (Device b)) sent ∙ response_ends s e t (map waiting_of others) status residual segment head.tasks in
       let ended : sum_by blocks_ended (leaving (tasks_after s e) (Device out)) ≡ 0 + (if status == 0 then blocks_of_write task.command else 0) = ap (sum_by blocks_ended) leaves in
-      let lists : lists_left [] (leaving (tasks_after s e) (Device out)) ≡ [] =
-      ap (lists_left []) leaves ∙ served_leaves_none (limits_of d.shape) l task.command head.ok.accepted.served in
       let shows : shown s (tasks_after s e) (Device out) ≡ None =
       ap (λ (b : List ℕ). shown s (tasks_after s e) (Device b)) sent ∙ shows_none s (tasks_after s e) (response_upiu task.lun task.tag status residual segment) tt in
       let failure : lookups ≤ one_if (ends_with 0x11 (Device out) (owed s e)) = subst (λ (due : List Event). lookups ≤ one_if (ends_with 0x11 (Device out) due)) (sym head.nothing) failed in
       counted_event s scanned scanned done 0 d.counts now e (Device out) 1 lookups 0 0 rise
-      (adds_sent s scanned done e out 0 lookups scan shows (omega (arith, ended, good)) lists failure) at
+      (adds_sent s scanned done e out 0 lookups scan shows (omega (arith, ended, good)) failure) at
 
   -- it ends with sense
   checked : (now : Counts) (out : List ℕ) (cause : Cause) (residual lookups : ℕ) → out ≡ upiu_out (reply_upiu (Check task.lun task.tag residual cause))
@@ -241,36 +208,36 @@ module _ (d : DeviceState) (task : Task) (others : List Task) (e : History) (hea
       → Rises d.counts now 1 0 0 0
       → AreCounted s scanned done d.counts e → AreCounted s scanned 0 now (e ▹ Device out)
   good_sent now out residual segment sent whole complete rise at =
-      let takes = write_takes task.command in
-      let all : blocks_of_write task.command ≤ done = omega (arith, takes, complete.come, complete.programmed, head.programmed) in
+      let most = write_takes task.command task complete.come complete.programmed in
+      let all : blocks_of_write task.command ≤ done = omega (arith, most, head.programmed) in
       responded now out 0x00 residual segment 0 sent (scanned_sent s scanned done e out whole) all (omega arith) rise at
 
 -- what is sent for a task that goes on
 sent_counts : (d : DeviceState) (task rest : Task) (others : List Task) (e : History) (what : Transfer) (out : List ℕ) (now : Counts) → Head d task others e
-    → Transfers (limits_of d.shape) d.store what task rest out
-    → (sizes_of d).pages ≤ d.store.scanned → TriedStale (sizes_of d) e (task ∷ others) → now ≡ counted d.counts (Sends what rest)
+    → Transfers (limits_of d.shape) d.store what task rest out → ServesEntry (next_entry d.lists task) d.store task (Sends what rest) → ListsStand d e
+    → (sizes_of d).pages ≤ d.store.scanned → TriedStale (sizes_of d) e d.lists (task ∷ others) → now ≡ counted d.counts (Sends what rest)
     → AreCounted (sizes_of d) d.store.scanned (programmed_of d.tasks) d.counts e → AreCounted (sizes_of d) d.store.scanned (programmed_of d.tasks) now (e ▹ Device out)
-sent_counts d task rest others e LookedUp out now head shows whole stale is at =
-    looked_up d task others e head rest out shows.sends now whole shows.untried stale (subst (λ (c : Counts). Rises d.counts c 1 1 0 0) (sym is) (rise_lookup d.counts rest)) at
-sent_counts d task rest others e ByEntry out now head finds whole stale is at =
-    by_entry d task others e head rest out finds.sends now whole finds.tries (subst (λ (c : Counts). Rises d.counts c 1 0 1 0) (sym is) (rise_entry d.counts rest)) at
-sent_counts d task rest others e EntryList out now head lists whole stale is at =
-    let piece = take lists.0 (entries_of d.store.pages task.lun (first_listed (limits_of d.shape) task.command + task.sent / 8) ((lists.0 + 7) / 8)) in
+sent_counts d task rest others e LookedUp out now head sends serves lists whole stale is at =
+    looked_up d task others e head rest out sends now lists whole serves stale (subst (λ (c : Counts). Rises d.counts c 1 1 0 0) (sym is) (rise_lookup d.counts rest)) at
+sent_counts d task rest others e ByEntry out now head sends serves lists whole stale is at =
+    by_entry d task others e head rest out sends now serves.0 lists whole (tries_of (next_entry d.lists task) serves.0 task serves.1).is (subst (λ (c : Counts). Rises d.counts c 1 0 1 0) (sym is) (rise_entry d.counts rest)) at
+sent_counts d task rest others e ListPiece out now head pieces serves lists whole stale is at =
+    let piece = take pieces.0 (entries_of d.store.pages task.lun (first_listed (limits_of d.shape) task.command + task.sent / 8) ((pieces.0 + 7) / 8)) in
     let t = flat task head.come in
-    let none : next_place (sizes_of d) t task.command ≡ None = ap (next_place (sizes_of d) t) lists.1.read_buffer.3 in
-    let leaves = ap (λ (b : List ℕ). leaving (tasks_after (sizes_of d) e) (Device b)) lists.1.sent ∙ data_leaves_none (tasks_after (sizes_of d) e) task.lun task.tag task.sent piece in
+    let none : place_after (sizes_of d) t task.command ≡ None = ap (place_after (sizes_of d) t) pieces.1.read_buffer.3 in
+    let leaves = ap (λ (b : List ℕ). leaving (tasks_after (sizes_of d) e) (Device b)) pieces.1.sent ∙ data_leaves_none (tasks_after (sizes_of d) e) task.lun task.tag task.sent piece in
     other_sent d task others e head now out whole (shows_no_place (sizes_of d) e t (map waiting_of others) out head.tasks none) leaves
     (subst (λ (c : Counts). Rises d.counts c 1 0 0 0) (sym is) (rise_step d.counts)) at
-sent_counts d task rest others e UnitCapacity out now head tells whole stale is at =
+sent_counts d task rest others e UnitCapacity out now head tells serves lists whole stale is at =
     let t = flat task head.come in
-    let none : next_place (sizes_of d) t task.command ≡ None = ap (next_place (sizes_of d) t) tells.command in
+    let none : place_after (sizes_of d) t task.command ≡ None = ap (place_after (sizes_of d) t) tells.command in
     let leaves = ap (λ (b : List ℕ). leaving (tasks_after (sizes_of d) e) (Device b)) tells.sent
     ∙ data_leaves_none (tasks_after (sizes_of d) e) task.lun task.tag task.sent (capacity_of d.store.units) in
     other_sent d task others e head now out whole (shows_no_place (sizes_of d) e t (map waiting_of others) out head.tasks none) leaves
     (subst (λ (c : Counts). Rises d.counts c 1 0 0 0) (sym is) (rise_step d.counts)) at
-sent_counts d task rest others e ReadyTransfer out now head asks whole stale is at =
+sent_counts d task rest others e ReadyTransfer out now head asks serves lists whole stale is at =
     let t = flat task head.come in
-    let none : next_place (sizes_of d) t task.command ≡ None = ap (next_place (sizes_of d) t) (is_written task.command task.asked asks.1.more).2 in
+    let none : place_after (sizes_of d) t task.command ≡ None = (takes_data task.command task.asked asks.1.more).no_place (sizes_of d) t in
     let leaves = ap (λ (b : List ℕ). leaving (tasks_after (sizes_of d) e) (Device b)) asks.1.sent
     ∙ transfer_leaves_none (tasks_after (sizes_of d) e) task.lun task.tag task.asked asks.0 in
     other_sent d task others e head now out whole (shows_no_place (sizes_of d) e t (map waiting_of others) out head.tasks none) leaves
@@ -284,9 +251,9 @@ read_tells lun tag residual out sent =
 
 -- what is sent for a task that goes on leaves its programmed blocks
 sent_programmed : (lim : Limits) (old : StoreState) (what : Transfer) (task rest : Task) (out : List ℕ) → Transfers lim old what task rest out → rest.programmed ≡ task.programmed
-sent_programmed lim old LookedUp task rest out shows = ap (λ (t : Task). t.programmed) shows.sends.task_is
-sent_programmed lim old ByEntry task rest out finds = ap (λ (t : Task). t.programmed) finds.sends.task_is
-sent_programmed lim old EntryList task rest out lists = ap (λ (t : Task). t.programmed) lists.1.task_is
+sent_programmed lim old LookedUp task rest out sends = ap (λ (t : Task). t.programmed) sends.task_is
+sent_programmed lim old ByEntry task rest out sends = ap (λ (t : Task). t.programmed) sends.task_is
+sent_programmed lim old ListPiece task rest out lists = ap (λ (t : Task). t.programmed) lists.1.task_is
 sent_programmed lim old UnitCapacity task rest out tells = ap (λ (t : Task). t.programmed) tells.task_is
 sent_programmed lim old ReadyTransfer task rest out asks = ap (λ (t : Task). t.programmed) asks.1.task_is
 
@@ -299,7 +266,8 @@ module _ (old new : DeviceState) (well : IsWell old) (shape : new.shape ≡ old.
   counts_at programmed counts history = AreCounted (sizes_of old) old.store.scanned programmed counts history
 
   -- a step on a ready chip
-  module _ (goes : GoesOn old new result out) (head : Head old goes.task goes.others e) (stale : TriedStale (sizes_of old) e (goes.task ∷ goes.others)) (stand : CountsStand old e) where
+  module _ (goes : GoesOn old new result out) (head : Head old goes.task goes.others e) (stale : TriedStale (sizes_of old) e old.lists (goes.task ∷ goes.others))
+      (lists : ListsStand old e) (stand : CountsStand old e) where
     abbrev all_scanned : Type 0
     all_scanned = (sizes_of old).pages ≤ old.store.scanned
 
@@ -327,29 +295,29 @@ module _ (old new : DeviceState) (well : IsWell old) (shape : new.shape ≡ old.
         (adds_failed (sizes_of old) old.store.scanned (programmed_of old.tasks) e op 0) stand.fits)
 
     goes_counts : (progress : Progress) → goes.progress ≡ progress → length new.store.pages ≡ length old.store.pages
-        → Advances (limits_of old.shape) old.store new.store old.held new.held goes.task progress out
+        → Advances (limits_of old.shape) old.store new.store old.held new.held goes.task progress out → ServesEntry (next_entry old.lists goes.task) old.store goes.task progress
         → Leaves progress (segment_told old.shape old.regions goes.task goes.progress) goes.others new.tasks new.held result out → CountsStand new (followed_by e (events_of (group_of result out)))
-    goes_counts (Sends what rest) is pages advances leaves =
+    goes_counts (Sends what rest) is pages advances serves leaves =
         let done : programmed_of new.tasks ≡ programmed_of old.tasks =
         ap programmed_of leaves.0 ∙ (sent_programmed (limits_of old.shape) old.store what goes.task rest out advances.0 ∙ sym head.programmed) in
         rw (leaves.1) (now_counted (Sends what rest) (programmed_of old.tasks) (e ▹ Device out) pages done
-        (sent_counts old goes.task rest goes.others e what out (counted c (Sends what rest)) head advances.0 looked stale refl stand.fits) is)
-    goes_counts (Silent Missed rest) is pages advances leaves =
+        (sent_counts old goes.task rest goes.others e what out (counted c (Sends what rest)) head advances.0 serves lists looked stale refl stand.fits) is)
+    goes_counts (Silent Missed rest) is pages advances serves leaves =
         let done : programmed_of new.tasks ≡ programmed_of old.tasks =
         ap programmed_of leaves.0 ∙ (ap (λ (t : Task). t.programmed) advances.0.0.task_is ∙ sym head.programmed) in
         rw (leaves.1) (now_counted (Silent Missed rest) (programmed_of old.tasks) e pages done
         (counted_quiet (sizes_of old) old.store.scanned old.store.scanned (programmed_of old.tasks) (programmed_of old.tasks) c (counted_step c) e 1 (rise_step c) (omega arith) stand.fits) is)
-    goes_counts (Silent Programmed rest) is pages advances leaves =
+    goes_counts (Silent Programmed rest) is pages advances serves leaves =
         let done : programmed_of new.tasks ≡ programmed_of old.tasks + 1 =
         ap programmed_of leaves.0 ∙ (ap (λ (t : Task). t.programmed) advances.0.1.task_is ∙ ap (λ (n : ℕ). n + 1) (sym head.programmed)) in
         rw (leaves.1) (now_counted (Silent Programmed rest) (programmed_of old.tasks + 1) e pages done
         (counted_quiet (sizes_of old) old.store.scanned old.store.scanned (programmed_of old.tasks) (programmed_of old.tasks + 1) c (counted_step c) e 1 (rise_step c) (omega arith) stand.fits) is)
-    goes_counts (Silent (Collected moved) rest) is pages advances leaves =
+    goes_counts (Silent (Collected moved) rest) is pages advances serves leaves =
         let done : programmed_of new.tasks ≡ programmed_of old.tasks =
         ap programmed_of leaves.0 ∙ (ap (λ (t : Task). t.programmed) advances.0.task_is ∙ sym head.programmed) in
         rw (leaves.1) (now_counted (Silent (Collected moved) rest) (programmed_of old.tasks) (moves_on moved out e) pages done
         (counted_moves (sizes_of old) old.store.scanned (programmed_of old.tasks) c (counted c (Silent (Collected moved) rest)) e moved out 1 (rise_moving c moved) stand.fits) is)
-    goes_counts (Ended reply) is pages advances leaves =
+    goes_counts (Ended reply) is pages advances serves leaves =
         let ended : Counts = counted c (Ended reply) in
         let after : counts_at 0 ended (e ▹ Device out) = elim advances.0 [
           | inl good ↦
@@ -361,16 +329,16 @@ module _ (old new : DeviceState) (well : IsWell old) (shape : new.shape ≡ old.
               checked old goes.task goes.others e head ended out NoNumber _ 0 sent scan (omega arith) (rise_step c) stand.fits
         ] in
         rw (leaves.2) (now_counted (Ended reply) 0 (e ▹ Device out) pages (others_programmed leaves.0) after is)
-    goes_counts (Failed MappedRead reply) is pages advances leaves =
+    goes_counts (Failed MappedRead reply) is pages advances serves leaves =
         let sent = leaves.3 ∙ ap (λ (r : Reply). upiu_out (reply_upiu r)) advances.0.answer in
         let tells = read_tells goes.task.lun goes.task.tag (goes.task.expected - goes.task.sent - goes.task.come) out sent in
         rw (leaves.2) (now_counted (Failed MappedRead reply) 0 (e ▹ CallFailed ReadCall ▹ Device out) pages (others_programmed leaves.0)
         (cut ReadCall ReadFailed 1 (counted c (Failed MappedRead reply)) sent tells (rise_lookup c goes.task)) is)
-    goes_counts (Failed EntryRead reply) is pages advances leaves =
+    goes_counts (Failed EntryRead reply) is pages advances serves leaves =
         let sent = leaves.3 ∙ ap (λ (r : Reply). upiu_out (reply_upiu r)) advances.0.answer in
         rw (leaves.2) (now_counted (Failed EntryRead reply) 0 (e ▹ CallFailed ReadCall ▹ Device out) pages (others_programmed leaves.0)
         (cut ReadCall ReadFailed 0 (counted c (Failed EntryRead reply)) sent (omega arith) (rise_step c)) is)
-    goes_counts (Failed (WriteStep op) reply) is pages advances leaves =
+    goes_counts (Failed (WriteStep op) reply) is pages advances serves leaves =
         let sent = leaves.3 ∙ ap (λ (r : Reply). upiu_out (reply_upiu r)) advances.0.answer in
         rw (leaves.2) (now_counted (Failed (WriteStep op) reply) 0 (e ▹ CallFailed op ▹ Device out) pages (others_programmed leaves.0)
         (cut op WriteFailed 0 (counted c (Failed (WriteStep op) reply)) sent (omega arith) (rise_step c)) is)
@@ -378,7 +346,7 @@ module _ (old new : DeviceState) (well : IsWell old) (shape : new.shape ≡ old.
     pub readied_counts : old.store.phase ≡ Ready → CountsStand new (followed_by e (events_of (group_of result out)))
     readied_counts ready =
         let whole = whole_after (limits_of old.shape) old.store new.store old.held new.held goes.task goes.progress out goes.ok (sym well.units) (well.standing.ready ready) goes.advances in
-        goes_counts goes.progress refl whole.count goes.advances goes.leaves
+        goes_counts goes.progress refl whole.count goes.advances goes.entries goes.leaves
 
   -- a step of the scan
   module _ (scans : Scans old new result out) (first : First) (at : DeviceStands old first e) (stand : CountsStand old e) where
@@ -417,10 +385,10 @@ module _ (old new : DeviceState) (well : IsWell old) (shape : new.shape ≡ old.
 
 -- by what is known of the chip
 pub steps_counts : (old new : DeviceState) (well : IsWell old) (shape : new.shape ≡ old.shape) (result : Stepped) (out : List ℕ) (phase : Phase) (first : First) (e : History)
-    → old.store.phase ≡ phase → StepsIn phase old new result out → DeviceStands old first e → EntriesStand old e → CountsStand old e
+    → old.store.phase ≡ phase → StepsIn phase old new result out → DeviceStands old first e → EntriesStand old e → ListsStand old e → CountsStand old e
     → CountsStand new (followed_by e (events_of (group_of result out)))
-steps_counts old new well shape result out Scanning first e is scans at entries stand = scanned_counts old new well shape result out e scans first at stand
-steps_counts old new well shape result out Ready first e is goes at entries stand =
+steps_counts old new well shape result out Scanning first e is scans at entries lists stand = scanned_counts old new well shape result out e scans first at stand
+steps_counts old new well shape result out Ready first e is goes at entries lists stand =
     readied_counts old new well shape result out e goes (head_at old goes.task goes.others first e goes.was well.queue at)
-    (subst (TriedStale (sizes_of old) e) goes.was entries.tried) stand is
-steps_counts old new well shape result out Foreign first e is refuses at entries stand = absurd (well.standing.foreign is at.sound)
+    (subst (TriedStale (sizes_of old) e old.lists) goes.was entries.tried) lists stand is
+steps_counts old new well shape result out Foreign first e is refuses at entries lists stand = absurd (well.standing.foreign is at.sound)

@@ -39,17 +39,19 @@ use Rattle.hpb_device.specs.declared.task.Task.{Task}
 use Rattle.hpb_device.specs.declared.advance.Progress.{Progress}
 use Rattle.hpb_device.specs.declared.advance.Progress.TheVariants.{Sends, Silent, Ended, Failed}
 use Rattle.hpb_device.specs.declared.advance.Transfer.{Transfer}
-use Rattle.hpb_device.specs.declared.advance.Transfer.TheVariants.{LookedUp, ByEntry, EntryList, UnitCapacity, Ready}
+use Rattle.hpb_device.specs.declared.advance.Transfer.TheVariants.{LookedUp, ByEntry, EntryList as ListPiece, UnitCapacity, Ready}
 use Rattle.hpb_device.specs.declared.advance.Internal.TheVariants.{Missed, Programmed, Collected}
 use Rattle.hpb_device.specs.declared.device.Stepped.{Stepped}
-use Rattle.hpb_device.specs.Advance.{Advances, Asks, IsSameStore, Lists, Misses, Programs, ReadsBlocks, op_of, SendsBlock, Transfers, capacity_of, entry_given, first_block, first_listed, nth_place}
+use Rattle.hpb_device.specs.Advance.{Advances, Asks, IsSameStore, Lists, Misses, Programs, ReadsBlocks, op_of, SendsBlock, ServesEntry, Transfers, capacity_of, first_block, first_listed, next_place}
 use Rattle.hpb_device.specs.Calls.{EndsHead, Keeps, Leaves, TakesData}
-use Rattle.hpb_device.specs.Entries.{EntriesStand, FreshHonoured, IsStale, TriedStale}
+use Rattle.hpb_device.specs.Entries.{EntriesStand, FreshHonoured, IsStale, IsStaleAt, TriedStale}
 use Rattle.hpb_device.specs.Limits.{limits_of}
 use Rattle.hpb_device.specs.Standing.{group_of, sizes_of}
 use Rattle.hpb_device.specs.State.{DeviceState}
-use Rattle.hpb_device.specs.Task.{IsQueue, IsWaiting, bytes_taken}
-use Rattle.hpb_device.proofs.Commands.{is_written, reads, tries_of}
+use Rattle.hpb_device.specs.Task.{IsQueue, IsWaiting, bytes_taken, entry_of, next_entry}
+use Rattle.entry_lists.specs.Lists.{EntryList}
+use Rattle.hpb_device.specs.Lists.{lists_stepped}
+use Rattle.hpb_device.proofs.Commands.{is_written, reads, takes_data, tries_of}
 use Rattle.hpb_device.proofs.Chips.{pages_of}
 use Rattle.hpb_device.proofs.Leaving.{IsOfTask}
 use Rattle.hpb_device.proofs.StepStands.{Turn, head_in, others_in, sizes_same, tasks_at}
@@ -78,22 +80,17 @@ stale_place s e ev p x none stale = rw (ap (is_entry x) none) (still (not (x == 
     still true true c is = is
     still true false c is = refl
 
-stale_stays : (s : Sizes) (e : History) (ev : Event) (task : Task) (command : Cdb) → ListsNone s e ev → IsStale s e task command → IsStale s (e ▹ ev) task command
-stale_stays s e ev task (HpbRead lba entry n id) none stale = stale_place s e ev (record { lun = task.lun; lba = lba }) entry (none _) stale
-stale_stays s e ev task _ none stale = tt
+stale_stays : (s : Sizes) (e : History) (ev : Event) (place : Place) (entry : Option ℕ) → ListsNone s e ev → IsStaleAt s e place entry → IsStaleAt s (e ▹ ev) place entry
+stale_stays s e ev place (Some entry) none stale = stale_place s e ev place entry (none _) stale
+stale_stays s e ev place None none stale = tt
 
 on_true : (b : Bool) {P Q : Type 0} → (P → Q) → OnTrue b P → OnTrue b Q
 on_true true f p = f p
 on_true false f p = tt
 
-pub tried_stays : (s : Sizes) (e : History) (ev : Event) (tasks : List Task) → ListsNone s e ev → TriedStale s e tasks → TriedStale s (e ▹ ev) tasks
-tried_stays s e ev [] none stale = tt
-tried_stays s e ev (head ∷ others) none stale = on_true head.tried (stale_stays s e ev head head.command none) stale
-
--- a task that has tried nothing
-pub untried_head : (s : Sizes) (e : History) (tasks : List Task) → AllByRecursion (λ (task : Task). task.tried ≡ false) tasks → TriedStale s e tasks
-untried_head s e [] all = tt
-untried_head s e (head ∷ others) all = rw (all.0) tt
+pub tried_stays : (s : Sizes) (e : History) (ev : Event) (lists : List (Option EntryList)) (tasks : List Task) → ListsNone s e ev → TriedStale s e lists tasks → TriedStale s (e ▹ ev) lists tasks
+tried_stays s e ev lists [] none stale = tt
+tried_stays s e ev lists (head ∷ others) none stale = on_true head.tried (stale_stays s e ev (next_place head) (next_entry lists head) none) stale
 
 -- what answers the host lists nothing
 pub reply_lists_none : (s : Sizes) (e : History) (reply : Reply) → ListsNone s e (Device (upiu_out (reply_upiu reply)))
@@ -240,43 +237,41 @@ honoured_programmed s old new e task others lba n k bytes is command more come p
         after_is p ∙ (current-others old program.page bytes spare program.inside program.erased p apart ∙ sym (ap (λ (b : Bool). if b then Some program.page else current old p) other))
 
 -- an entry that isn't honoured isn't fresh
-pub missed_stale : (s : Sizes) (chip : List Page) (e : History) (task : Task) (command : Cdb) → FreshHonoured s chip e → task.lun < s.luns → first_block command < s.units
-    → ¬ IsHonoured chip (record { lun = task.lun; lba = first_block command }) (entry_given command) → IsStale s e task command
-missed_stale s chip e task (HpbRead lba entry n id) keeps lun inside refused = by_fresh (is_fresh s e here entry) refl
+pub missed_stale : (s : Sizes) (chip : List Page) (e : History) (place : Place) (entry : ℕ) → FreshHonoured s chip e → IsPlace s.luns s.units place
+    → ¬ IsHonoured chip place entry → is_fresh s e place entry ≡ false
+missed_stale s chip e place entry keeps inside refused = by_fresh (is_fresh s e place entry) refl
   where
-    here : Place
-    here = record { lun = task.lun; lba = lba }
-
-    by_fresh : (b : Bool) → is_fresh s e here entry ≡ b → b ≡ false
+    by_fresh : (b : Bool) → is_fresh s e place entry ≡ b → b ≡ false
     by_fresh false is = refl
-    by_fresh true is = absurd (refused (keeps here entry (record { lun = lun; lba = inside }) is))
-missed_stale s chip e task _ keeps lun inside refused = tt
+    by_fresh true is = absurd (refused (keeps place entry inside is))
 
 -- a device with these sizes
-pub entries_now : (d now : DeviceState) (e : History) → IsSameStore d.store now.store → now.shape ≡ d.shape → FreshHonoured (sizes_of d) now.store.pages e → TriedStale (sizes_of d) e now.tasks
+pub entries_now : (d now : DeviceState) (e : History) → IsSameStore d.store now.store → now.shape ≡ d.shape → FreshHonoured (sizes_of d) now.store.pages e
+    → TriedStale (sizes_of d) e now.lists now.tasks
     → EntriesStand now e
 entries_now d now e same shape fresh tried =
     let sized = sizes_same d now same shape in
-    record { fresh = subst (λ (s : Sizes). FreshHonoured s now.store.pages e) sized fresh; tried = subst (λ (s : Sizes). TriedStale s e now.tasks) sized tried }
+    record { fresh = subst (λ (s : Sizes). FreshHonoured s now.store.pages e) sized fresh; tried = subst (λ (s : Sizes). TriedStale s e now.lists now.tasks) sized tried }
 
 -- a task that has no entry to try
-untried_task : (s : Sizes) (e : History) (task : Task) (others tasks : List Task) → tasks ≡ task ∷ others → ((e : History) → IsStale s e task task.command) → TriedStale s e tasks
-untried_task s e task others tasks is stale = rw is (on_any task.tried (stale e))
+untried_task : (s : Sizes) (e : History) (lists : List (Option EntryList)) (task : Task) (others tasks : List Task) → tasks ≡ task ∷ others → next_entry lists task ≡ None → TriedStale s e lists tasks
+untried_task s e lists task others tasks is none = rw is (on_any task.tried (subst (IsStaleAt s e (next_place task)) (sym none) tt))
   where
     on_any : (b : Bool) {P : Type 0} → P → OnTrue b P
     on_any true p = p
     on_any false p = tt
 
-pub waiting_untried : (luns : ℕ) (lim : Limits) (s : Sizes) (e : History) (others tasks : List Task) → tasks ≡ others → AllByRecursion (IsWaiting luns lim) others → TriedStale s e tasks
-waiting_untried luns lim s e [] tasks is all = rw is tt
-waiting_untried luns lim s e (next ∷ others) tasks is all = rw (is, all.0.none_tried) tt
+pub waiting_untried : (luns : ℕ) (lim : Limits) (s : Sizes) (e : History) (lists : List (Option EntryList)) (others tasks : List Task) → tasks ≡ others
+    → AllByRecursion (IsWaiting luns lim) others → TriedStale s e lists tasks
+waiting_untried luns lim s e lists [] tasks is all = rw is tt
+waiting_untried luns lim s e lists (next ∷ others) tasks is all = rw (is, all.0.none_tried) tt
 
 -- a block that is sent, and the capacity, list nothing
 shown_lists_none : (turn : Turn) (rest : Task) (out : List ℕ) → SendsBlock turn.old.store turn.task rest out → ListsNone (sizes_of turn.old) turn.history (Device out)
 shown_lists_none turn rest out shows =
     let s = sizes_of turn.old in
     let task = turn.task in
-    let block = block_of turn.old.store.pages (nth_place task (task.sent / 4096)) in
+    let block = block_of turn.old.store.pages (next_place task) in
     let ok = turn.ready.ok in
     subst (λ (b : List ℕ). ListsNone s turn.history (Device b)) (sym shows.sent)
     (data_lists_none s turn.history (head_in turn) (others_in turn) task.lun task.tag task.sent block
@@ -298,9 +293,9 @@ asked_lists_none turn rest count out asks =
 -- a transfer that is no list of entries lists nothing
 pub sent_lists_none : (turn : Turn) (what : Transfer) (rest : Task) (out : List ℕ) → Transfers (limits_of turn.old.shape) turn.old.store what turn.task rest out
     → ((count : ℕ) × Lists (limits_of turn.old.shape) turn.old.store turn.task rest count out) ⊎ ListsNone (sizes_of turn.old) turn.history (Device out)
-sent_lists_none turn LookedUp rest out shows = inr (shown_lists_none turn rest out shows.sends)
-sent_lists_none turn ByEntry rest out finds = inr (shown_lists_none turn rest out finds.sends)
-sent_lists_none turn EntryList rest out lists = inl lists
+sent_lists_none turn LookedUp rest out sends = inr (shown_lists_none turn rest out sends)
+sent_lists_none turn ByEntry rest out sends = inr (shown_lists_none turn rest out sends)
+sent_lists_none turn ListPiece rest out lists = inl lists
 sent_lists_none turn UnitCapacity rest out tells = inr (told_lists_none turn rest out tells)
 sent_lists_none turn Ready rest out asks = inr (asked_lists_none turn rest asks.0 out asks.1)
 
@@ -333,18 +328,18 @@ honoured_sent turn rest count out lists fresh =
 
 -- what is sent tries no entry, and the task that goes on has tried none
 untried_sent : (turn : Turn) (what : Transfer) (rest : Task) (out : List ℕ) → Transfers (limits_of turn.old.shape) turn.old.store what turn.task rest out → (s : Sizes) (e : History)
-    → TriedStale s e (rest ∷ turn.others)
-untried_sent turn LookedUp rest out shows s e = let untried : rest.tried ≡ false = ap (λ (t : Task). t.tried) shows.sends.task_is in rw untried tt
-untried_sent turn ByEntry rest out finds s e = let untried : rest.tried ≡ false = ap (λ (t : Task). t.tried) finds.sends.task_is in rw untried tt
-untried_sent turn EntryList rest out lists s e =
+    → (lists : List (Option EntryList)) → TriedStale s e lists (rest ∷ turn.others)
+untried_sent turn LookedUp rest out sends s e kept = let untried : rest.tried ≡ false = ap (λ (t : Task). t.tried) sends.task_is in rw untried tt
+untried_sent turn ByEntry rest out sends s e kept = let untried : rest.tried ≡ false = ap (λ (t : Task). t.tried) sends.task_is in rw untried tt
+untried_sent turn ListPiece rest out lists s e kept =
     let command = ap (λ (t : Task). t.command) lists.1.task_is ∙ lists.1.read_buffer.3 in
-    untried_task s e rest turn.others (rest ∷ turn.others) refl (λ e. subst (IsStale s e rest) (sym command) tt)
-untried_sent turn UnitCapacity rest out tells s e =
+    untried_task s e kept rest turn.others (rest ∷ turn.others) refl (ap (λ (c : Cdb). entry_of kept rest.lun c (rest.sent / 4096)) command)
+untried_sent turn UnitCapacity rest out tells s e kept =
     let command = ap (λ (t : Task). t.command) tells.task_is ∙ tells.command in
-    untried_task s e rest turn.others (rest ∷ turn.others) refl (λ e. subst (IsStale s e rest) (sym command) tt)
-untried_sent turn Ready rest out asks s e =
-    let command = ap (λ (t : Task). t.command) asks.1.task_is ∙ (is_written turn.task.command turn.task.asked asks.1.more).2 in
-    untried_task s e rest turn.others (rest ∷ turn.others) refl (λ e. subst (IsStale s e rest) (sym command) tt)
+    untried_task s e kept rest turn.others (rest ∷ turn.others) refl (ap (λ (c : Cdb). entry_of kept rest.lun c (rest.sent / 4096)) command)
+untried_sent turn Ready rest out asks s e kept =
+    let none = (takes_data turn.task.command turn.task.asked asks.1.more).no_entry kept rest.lun (rest.sent / 4096) in
+    untried_task s e kept rest turn.others (rest ∷ turn.others) refl (ap (λ (t : Task). entry_of kept rest.lun t.command (rest.sent / 4096)) asks.1.task_is ∙ none)
 
 sent_entries : (turn : Turn) (what : Transfer) (rest : Task) (out : List ℕ) → Transfers (limits_of turn.old.shape) turn.old.store what turn.task rest out
     → turn.new.store.pages ≡ turn.old.store.pages
@@ -355,28 +350,24 @@ sent_entries turn what rest out sends pages head stand =
       | inl lists ↦ honoured_sent turn rest lists.0 out lists.1 stand.fresh
       | inr none ↦ honoured_stays s turn.old.store.pages turn.history (Device out) none stand.fresh
     ] in
-    entries_now turn.old turn.new (turn.history ▹ Device out) turn.same turn.shape (rw pages fresh) (rw head (untried_sent turn what rest out sends s (turn.history ▹ Device out)))
+    entries_now turn.old turn.new (turn.history ▹ Device out) turn.same turn.shape (rw pages fresh) (rw head (untried_sent turn what rest out sends s (turn.history ▹ Device out) turn.new.lists))
 
 -- after an entry was tried in vain
-missed_entries : (turn : Turn) (rest : Task) → Misses turn.old.store turn.task rest → turn.new.store.pages ≡ turn.old.store.pages → turn.new.tasks ≡ rest ∷ turn.others
-    → EntriesStand turn.old turn.history → EntriesStand turn.new turn.history
-missed_entries turn rest misses pages head stand =
+missed_entries : (turn : Turn) (rest : Task) (x : ℕ) → Misses turn.task rest → next_entry turn.old.lists turn.task ≡ Some x → turn.new.lists ≡ turn.old.lists → ¬ IsHonoured turn.old.store.pages (next_place turn.task) x
+    → turn.new.store.pages ≡ turn.old.store.pages → turn.new.tasks ≡ rest ∷ turn.others → EntriesStand turn.old turn.history → EntriesStand turn.new turn.history
+missed_entries turn rest x misses entry lists refused pages head stand =
     let d = turn.old in
     let task = turn.task in
     let ready = turn.ready in
-    let tries = tries_of (limits_of d.shape) task.command task misses.tries in
-    let moves = reads d.store.luns (limits_of d.shape) task ready.ok tries.reads in
-    let inside : first_block task.command < d.shape.units = omega (arith, moves.within, moves.gives, tries.some, ready.ok.accepted.given) in
-    let Refused : ℕ → Type 0 = λ n. let p : Place = record { lun = task.lun; lba = n } in ¬ IsHonoured d.store.pages p (entry_given task.command) in
-    let refused : Refused (first_block task.command) = subst Refused (omega arith) misses.refused in
-    let stale : IsStale (sizes_of d) turn.history task task.command = missed_stale (sizes_of d) d.store.pages turn.history task task.command stand.fresh ready.ok.accepted.lun inside refused in
+    let s = sizes_of d in
+    let moves = reads d.store.luns (limits_of d.shape) task ready.ok misses.reads in
+    let inside : first_block task.command + task.sent / 4096 < d.shape.units = omega (arith, moves.within, moves.gives, misses.more) in
+    let place : IsPlace s.luns s.units (next_place task) = record { lun = ready.ok.accepted.lun; lba = inside } in
+    let stale : IsStale s turn.history d.lists task =
+    subst (IsStaleAt s turn.history (next_place task)) (sym entry) (missed_stale s d.store.pages turn.history (next_place task) x stand.fresh place refused) in
     let now_task : Task = record task { tried = true } in
     let head_is : turn.new.tasks ≡ now_task ∷ turn.others = head ∙ ap (λ (r : Task). r ∷ turn.others) misses.task_is in
-    entries_now d turn.new turn.history turn.same turn.shape (rw pages (stand.fresh)) (rw head_is (same_stale task.command stale))
-  where
-    same_stale : (command : Cdb) → IsStale (sizes_of turn.old) turn.history turn.task command → IsStale (sizes_of turn.old) turn.history (record turn.task { tried = true }) command
-    same_stale (HpbRead lba entry n id) stale = stale
-    same_stale _ stale = tt
+    entries_now d turn.new turn.history turn.same turn.shape (rw pages (stand.fresh)) (rw (lists, head_is) stale)
 
 -- after a block was programmed
 programmed_entries : (turn : Turn) (rest : Task) (start : ℕ) → Programs turn.old.store turn.new.store turn.old.held turn.task rest start → turn.new.tasks ≡ rest ∷ turn.others
@@ -387,7 +378,7 @@ programmed_entries turn rest start programs head stand =
     let ready = turn.ready in
     let s = sizes_of d in
     let k = task.programmed in
-    let is = is_written task.command (4096 * k) (omega (arith, programs.more, ready.ok.within.come, ready.ok.within.asked)) in
+    let is = is_written task.command programs.write in
     let taken : bytes_taken task.command ≡ 4096 * is.1 = ap bytes_taken is.2 in
     let below : k < is.1 = omega (arith, programs.more, ready.ok.within.come, ready.ok.within.asked, taken) in
     let come : 0 < length ready.only.come = omega (arith, programs.more, ready.only.counted) in
@@ -397,7 +388,7 @@ programmed_entries turn rest start programs head stand =
     let fresh = honoured_programmed s d.store.pages turn.new.store.pages turn.history (head_in turn) (others_in turn) is.0 is.1 k bytes (tasks_at turn) is.2 below come program stand.fresh in
     let command : rest.command ≡ Write is.0 is.1 = ap (λ (t : Task). t.command) programs.task_is ∙ is.2 in
     entries_now d turn.new turn.history turn.same turn.shape fresh
-    (untried_task s turn.history rest turn.others turn.new.tasks head (λ e. subst (IsStale s e rest) (sym command) tt))
+    (untried_task s turn.history turn.new.lists rest turn.others turn.new.tasks head (ap (λ (c : Cdb). entry_of turn.new.lists rest.lun c (rest.sent / 4096)) command))
 
 -- after the first task ended
 pub ended_entries : (turn : Turn) (out : List ℕ) (e : History) → ListsNone (sizes_of turn.old) e (Device out) → turn.new.store.pages ≡ turn.old.store.pages → turn.new.tasks ≡ turn.others
@@ -406,21 +397,23 @@ ended_entries turn out e none pages left fresh =
     let s = sizes_of turn.old in
     entries_now turn.old turn.new (e ▹ Device out) turn.same turn.shape
     (rw pages (honoured_stays s turn.old.store.pages e (Device out) none fresh))
-    (waiting_untried turn.old.store.luns (limits_of turn.old.shape) s (e ▹ Device out) turn.others turn.new.tasks left turn.ready.waiting)
+    (waiting_untried turn.old.store.luns (limits_of turn.old.shape) s (e ▹ Device out) turn.new.lists turn.others turn.new.tasks left turn.ready.waiting)
 
 -- what a step leaves
 pub stepped_entries : (segment : List ℕ) (turn : Turn) (progress : Progress) (result : Stepped) (out : List ℕ) → IsOfTask progress
     → Advances (limits_of turn.old.shape) turn.old.store turn.new.store turn.old.held turn.new.held turn.task progress out
+    → ServesEntry (next_entry turn.old.lists turn.task) turn.old.store turn.task progress → turn.new.lists ≡ lists_stepped turn.old.lists turn.task turn.old.held progress
     → Leaves progress segment turn.others turn.new.tasks turn.new.held result out → EntriesStand turn.old turn.history → EntriesStand turn.new (followed_by turn.history (events_of (group_of result out)))
-stepped_entries segment turn (Sends what rest) result out own advances leaves stand =
+stepped_entries segment turn (Sends what rest) result out own advances serves lists leaves stand =
     rw (leaves.1) (sent_entries turn what rest out advances.0 (pages_of turn.old.store turn.new.store advances.1) leaves.0 stand)
-stepped_entries segment turn (Silent Missed rest) result out own advances leaves stand =
-    rw (leaves.1) (missed_entries turn rest advances.0.0 (pages_of turn.old.store turn.new.store advances.0.1) leaves.0 stand)
-stepped_entries segment turn (Silent Programmed rest) result out own advances leaves stand = rw (leaves.1) (programmed_entries turn rest advances.0.0 advances.0.1 leaves.0 stand)
-stepped_entries segment turn (Silent (Collected moved) rest) result out own advances leaves stand = absurd own
-stepped_entries segment turn (Ended reply) result out own advances leaves stand =
+stepped_entries segment turn (Silent Missed rest) result out own advances serves lists leaves stand =
+    let tries = tries_of (next_entry turn.old.lists turn.task) serves.0 turn.task serves.1 in
+    rw (leaves.1) (missed_entries turn rest serves.0 advances.0.0 tries.is lists serves.2 (pages_of turn.old.store turn.new.store advances.0.1) leaves.0 stand)
+stepped_entries segment turn (Silent Programmed rest) result out own advances serves lists leaves stand = rw (leaves.1) (programmed_entries turn rest advances.0.0 advances.0.1 leaves.0 stand)
+stepped_entries segment turn (Silent (Collected moved) rest) result out own advances serves lists leaves stand = absurd own
+stepped_entries segment turn (Ended reply) result out own advances serves lists leaves stand =
     rw (leaves.2) (ended_entries turn out turn.history (same_lists_none (sizes_of turn.old) turn.history out _ leaves.3 (answer_lists_none (sizes_of turn.old) turn.history segment reply)) (pages_of turn.old.store turn.new.store advances.1) leaves.0 stand.fresh)
-stepped_entries segment turn (Failed what reply) result out own advances leaves stand =
+stepped_entries segment turn (Failed what reply) result out own advances serves lists leaves stand =
     rw (leaves.2) (ended_entries turn out (turn.history ▹ CallFailed (op_of what))
     (same_lists_none (sizes_of turn.old) (turn.history ▹ CallFailed (op_of what)) out _ leaves.3 (reply_lists_none (sizes_of turn.old) (turn.history ▹ CallFailed (op_of what)) reply)) advances.1 leaves.0
     (honoured_stays (sizes_of turn.old) turn.old.store.pages turn.history (CallFailed (op_of what)) (λ p. refl) stand.fresh))
@@ -429,41 +422,38 @@ stepped_entries segment turn (Failed what reply) result out own advances leaves 
 after_host : (d : DeviceState) (bytes : List ℕ) (e : History) → EntriesStand d e → EntriesStand d (e ▹ Host bytes)
 after_host d bytes e stand = record {
   fresh = honoured_stays (sizes_of d) d.store.pages e (Host bytes) (λ p. refl) stand.fresh;
-  tried = tried_stays (sizes_of d) e (Host bytes) d.tasks (λ p. refl) stand.tried;
+  tried = tried_stays (sizes_of d) e (Host bytes) d.lists d.tasks (λ p. refl) stand.tried;
 }
 
 after_answer : (d : DeviceState) (out : List ℕ) (e : History) → ListsNone (sizes_of d) e (Device out) → EntriesStand d e → EntriesStand d (e ▹ Device out)
 after_answer d out e none stand = record {
   fresh = honoured_stays (sizes_of d) d.store.pages e (Device out) none stand.fresh;
-  tried = tried_stays (sizes_of d) e (Device out) d.tasks none stand.tried;
+  tried = tried_stays (sizes_of d) e (Device out) d.lists d.tasks none stand.tried;
 }
 
-stale_of : (s : Sizes) (e : History) (task : Task) (come : ℕ) (command : Cdb) → IsStale s e task command → IsStale s e (record task { come = come }) command
-stale_of s e task come (HpbRead lba entry n id) stale = stale
-stale_of s e task come _ stale = tt
-
-more_tried : (s : Sizes) (e : History) (tasks : List Task) (task : Task) → task.tried ≡ false → TriedStale s e tasks → TriedStale s e (tasks ++ task ∷ [])
-more_tried s e [] task untried stale = rw untried tt
-more_tried s e (head ∷ others) task untried stale = stale
+more_tried : (s : Sizes) (e : History) (lists : List (Option EntryList)) (tasks : List Task) (task : Task) → task.tried ≡ false → TriedStale s e lists tasks
+    → TriedStale s e lists (tasks ++ task ∷ [])
+more_tried s e lists [] task untried stale = rw untried tt
+more_tried s e lists (head ∷ others) task untried stale = stale
 
 same_store : (d now : DeviceState) → now.store ≡ d.store → IsSameStore d.store now.store
 same_store d now is = record { geometry = ap (λ (z : StoreState). z.geometry) is; luns = ap (λ (z : StoreState). z.luns) is; units = ap (λ (z : StoreState). z.units) is }
 
 -- a command that is kept, and data that come, leave the entries as they were
 pub kept_entries : (d now : DeviceState) (bytes : List ℕ) (e : History) → Keeps d now bytes ⊎ TakesData d now (upiu_at bytes).segment → now.store ≡ d.store → now.shape ≡ d.shape
-    → EntriesStand d e → EntriesStand now (e ▹ Host bytes)
-kept_entries d now bytes e receives store shape stand =
+    → now.lists ≡ d.lists → EntriesStand d e → EntriesStand now (e ▹ Host bytes)
+kept_entries d now bytes e receives store shape lists stand =
     let host = after_host d bytes e stand in
     let pages : now.store.pages ≡ d.store.pages = ap (λ (z : StoreState). z.pages) store in
     elim receives [
       | inl keeps ↦
           let untried : keeps.task.tried ≡ false = ap (λ (t : Task). t.tried) keeps.begun.task_is in
           entries_now d now (e ▹ Host bytes) (same_store d now store) shape (rw pages (host.fresh))
-          (rw (keeps.kept) (more_tried (sizes_of d) (e ▹ Host bytes) d.tasks keeps.task untried host.tried))
+          (rw (lists, keeps.kept) (more_tried (sizes_of d) (e ▹ Host bytes) d.lists d.tasks keeps.task untried host.tried))
       | inr takes ↦
-          let tried : TriedStale (sizes_of d) (e ▹ Host bytes) (takes.task ∷ takes.others) = subst (TriedStale (sizes_of d) (e ▹ Host bytes)) takes.was host.tried in
+          let tried : TriedStale (sizes_of d) (e ▹ Host bytes) d.lists (takes.task ∷ takes.others) = subst (TriedStale (sizes_of d) (e ▹ Host bytes) d.lists) takes.was host.tried in
           entries_now d now (e ▹ Host bytes) (same_store d now store) shape (rw pages (host.fresh))
-          (rw (takes.kept) (on_true takes.task.tried (stale_of (sizes_of d) (e ▹ Host bytes) takes.task (takes.task.come + length (upiu_at bytes).segment) takes.task.command) tried))
+          (rw (lists, takes.kept) tried)
     ]
 
 -- what is answered at once ends no task
@@ -481,7 +471,7 @@ ending_entries d now luns lim bytes reply out e queue ends sent store shape stan
     let pages : now.store.pages ≡ d.store.pages = ap (λ (z : StoreState). z.pages) store in
     let q = subst (IsQueue luns lim d.held) ends.was queue in
     entries_now d now (e ▹ Host bytes ▹ Device out) (same_store d now store) shape (rw pages (host.fresh))
-    (waiting_untried luns lim (sizes_of d) (e ▹ Host bytes ▹ Device out) ends.others now.tasks ends.ended q.2)
+    (waiting_untried luns lim (sizes_of d) (e ▹ Host bytes ▹ Device out) now.lists ends.others now.tasks ends.ended q.2)
 
 -- a device that was just made has listed nothing, and tried nothing
 pub begins_entries : (device : DeviceState) → device.tasks ≡ [] → EntriesStand device []

@@ -39,7 +39,7 @@ use Rattle.hpb_device.specs.declared.advance.Transfer.TheVariants.{LookedUp, ByE
 use Rattle.hpb_device.specs.declared.counts.Counts.{Counts}
 use Rattle.hpb_device.specs.declared.device.Stepped.{Stepped}
 use Rattle.hpb_device.specs.declared.task.Task.{Task}
-use Rattle.hpb_device.specs.Advance.{Advances, IsSameStore}
+use Rattle.hpb_device.specs.Advance.{Advances, IsSameStore, ServesEntry}
 use Rattle.hpb_device.specs.Counts.{counted, counted_step}
 use Rattle.hpb_device.specs.Left.{KeepsNoWrite, unscanned}
 use Rattle.hpb_device.specs.Limits.{limits_of}
@@ -48,8 +48,7 @@ use Rattle.hpb_device.specs.Keeps.{KeepsTasks, IsTaskOf, waiting_of}
 use Rattle.hpb_device.specs.Standing.{DeviceStands, DeviceStandsForeign, first_of, group_of, kept_of, programmed_of, sizes_of}
 use Rattle.hpb_device.specs.State.{DeviceState, AreAtRest, AtRest, IsSound}
 use Rattle.hpb_device.specs.StoreCounts.{CountsFault}
-use Rattle.hpb_device.specs.Task.{IsTaskOk, IsWaiting, tries_entry}
-use Rattle.hpb_device.proofs.Commands.{is_written}
+use Rattle.hpb_device.specs.Task.{IsTaskOk, IsWaiting, next_entry, to_try}
 pub use Rattle.hpb_device.proofs.Failures.{none_failed, one_failed}
 use Rattle.hpb_device.proofs.Failures.{moved_fails_none}
 use Rattle.hpb_device.proofs.StepStands.{sizes_same}
@@ -256,34 +255,34 @@ no_task_rests device none = subst AreAtRest (sym none) tt
 
 -- a step that sends nothing programs a block of a write that has asked for data, or tries an entry for the first time
 has_asked_data : (held : List ℕ) (luns : ℕ) (lim : Limits) (kept : Task) (task : Waiting) (others : List Waiting) → IsTaskOf held kept task → IsTaskOk luns lim kept
-    → 4096 * kept.programmed < kept.come → has_asked (task ∷ others) ≡ true
-has_asked_data held luns lim kept task others at ok more =
-    let write = is_written kept.command kept.programmed (omega (arith, ok.within.asked, ok.within.come, more)) in
+    → is_write kept.command ≡ true → 4096 * kept.programmed < kept.come → has_asked (task ∷ others) ≡ true
+has_asked_data held luns lim kept task others at ok write more =
     let asked : nat_lt 0 kept.asked ≡ true = grind (arith, nat_tests, ok.within.come, more) in
-    rw (at.command, write.2, at.asked, asked) refl
+    rw (at.command, write, at.asked, asked) refl
 
 pub sent_or_silent : (result : Stepped) (failed : Option ChipOp) → result ≡ stepped failed None true → result.sent ≡ false → ⊥
 sent_or_silent result failed is silent = false≢true (sym silent ∙ ap (λ (r : Stepped). r.sent) is)
 
 silent_by : (segment : List ℕ) (old new : DeviceState) (task : Task) (others : List Task) (progress : Progress) (result : Stepped) (out : List ℕ) (tasks : List Waiting)
     → IsTaskOk old.store.luns (limits_of old.shape) task
-    → Advances (limits_of old.shape) old.store new.store old.held new.held task progress out → Leaves progress segment others new.tasks new.held result out → KeepsTasks (task ∷ others) old.held tasks
+    → Advances (limits_of old.shape) old.store new.store old.held new.held task progress out → ServesEntry (next_entry old.lists task) old.store task progress
+    → Leaves progress segment others new.tasks new.held result out → KeepsTasks (task ∷ others) old.held tasks
     → result.sent ≡ false
-    → (has_asked tasks ≡ true) ⊎ (tries_entry task ≡ true)
-silent_by segment old new task others (Sends what rest) result out tasks ok advances leaves keeps silent = absurd (sent_or_silent result _ leaves.1 silent)
-silent_by segment old new task others (Silent Missed rest) result out tasks ok advances leaves keeps silent = inr advances.0.0.tries
-silent_by segment old new task others (Silent Programmed rest) result out tasks ok advances leaves keeps silent =
-    inl (subst (λ (ts : List Waiting). has_asked ts ≡ true) (sym keeps.2) (has_asked_data old.held old.store.luns (limits_of old.shape) task keeps.0 (map waiting_of others) keeps.1 ok advances.0.1.more))
-silent_by segment old new task others (Silent (Collected moved) rest) result out tasks ok advances leaves keeps silent =
-    inl (subst (λ (ts : List Waiting). has_asked ts ≡ true) (sym keeps.2) (has_asked_data old.held old.store.luns (limits_of old.shape) task keeps.0 (map waiting_of others) keeps.1 ok advances.0.more))
-silent_by segment old new task others (Ended reply) result out tasks ok advances leaves keeps silent = absurd (sent_or_silent result _ leaves.2 silent)
-silent_by segment old new task others (Failed what reply) result out tasks ok advances leaves keeps silent = absurd (sent_or_silent result _ leaves.2 silent)
+    → (has_asked tasks ≡ true) ⊎ ((x : ℕ) × (to_try (next_entry old.lists task) task ≡ Some x))
+silent_by segment old new task others (Sends what rest) result out tasks ok advances serves leaves keeps silent = absurd (sent_or_silent result _ leaves.1 silent)
+silent_by segment old new task others (Silent Missed rest) result out tasks ok advances serves leaves keeps silent = inr (serves.0, serves.1)
+silent_by segment old new task others (Silent Programmed rest) result out tasks ok advances serves leaves keeps silent =
+    inl (subst (λ (ts : List Waiting). has_asked ts ≡ true) (sym keeps.2) (has_asked_data old.held old.store.luns (limits_of old.shape) task keeps.0 (map waiting_of others) keeps.1 ok advances.0.1.write advances.0.1.more))
+silent_by segment old new task others (Silent (Collected moved) rest) result out tasks ok advances serves leaves keeps silent =
+    inl (subst (λ (ts : List Waiting). has_asked ts ≡ true) (sym keeps.2) (has_asked_data old.held old.store.luns (limits_of old.shape) task keeps.0 (map waiting_of others) keeps.1 ok advances.0.write advances.0.more))
+silent_by segment old new task others (Ended reply) result out tasks ok advances serves leaves keeps silent = absurd (sent_or_silent result _ leaves.2 silent)
+silent_by segment old new task others (Failed what reply) result out tasks ok advances serves leaves keeps silent = absurd (sent_or_silent result _ leaves.2 silent)
 
 pub going_is_silent : (old new : DeviceState) (result : Stepped) (out : List ℕ) (tasks : List Waiting) → (goes : GoesOn old new result out) → KeepsTasks old.tasks old.held tasks
     → result.sent ≡ false
-    → (has_asked tasks ≡ true) ⊎ (tries_entry goes.task ≡ true)
+    → (has_asked tasks ≡ true) ⊎ ((x : ℕ) × (to_try (next_entry old.lists goes.task) goes.task ≡ Some x))
 going_is_silent old new result out tasks goes keeps silent =
-    silent_by _ old new goes.task goes.others goes.progress result out tasks goes.ok goes.advances goes.leaves (subst (λ (ts : List Task). KeepsTasks ts old.held tasks) goes.was keeps) silent
+    silent_by _ old new goes.task goes.others goes.progress result out tasks goes.ok goes.advances goes.entries goes.leaves (subst (λ (ts : List Task). KeepsTasks ts old.held tasks) goes.was keeps) silent
 
 -- a device is at rest where its tasks are
 goes_by : (kept : List Task) (held : List ℕ) (tasks : List Waiting) → KeepsTasks kept held tasks → ¬ AreAtRest kept → at_rest tasks ≡ false

@@ -1,5 +1,5 @@
 -- What a step leaves, whatever it came to.
-use Rattle.std.proofs.Common.{◌≡◌, ℕ, Bool, true, false, List, [], ◌∷◌, refl, sym, ◌∙◌, subst, arith}
+use Rattle.std.proofs.Common.{◌≡◌, ℕ, Bool, true, false, ◌≤◌, Option, List, [], ◌∷◌, length, refl, sym, ◌∙◌, ap, subst, arith}
 use Rattle.std.specs.Bool.{OnFalse}
 use Rattle.std.specs.List.{AllByRecursion}
 use Rattle.flash_store.specs.Store.{StoreState}
@@ -13,9 +13,11 @@ use Rattle.hpb_device.specs.declared.device.Stepped.{Stepped}
 use Rattle.hpb_device.specs.declared.task.Task.{Task}
 use Rattle.hpb_device.specs.declared.counts.Counts.{Counts}
 use Rattle.hpb_device.specs.Counts.{counted}
-use Rattle.hpb_device.specs.Advance.{Advances, AllTasks, Transfers}
+use Rattle.entry_lists.specs.Lists.{EntryList}
+use Rattle.hpb_device.specs.Lists.{lists_stepped}
+use Rattle.hpb_device.specs.Advance.{Advances, AllTasks, Transfers, WhereOver}
 use Rattle.hpb_device.specs.Calls.{Leaves, Stays}
-use Rattle.hpb_device.specs.Task.{HoldsData, IsQueue, IsTaskOk, IsWaiting}
+use Rattle.hpb_device.specs.Task.{HoldsData, IsQueue, IsTaskOk, IsWaiting, bytes_taken}
 
 -- no step of the collector
 abbrev pub IsOfTask : Progress → Type 0
@@ -66,3 +68,19 @@ none_erased counts (Ended reply) own = refl
 none_erased counts (Failed MappedRead reply) own = refl
 none_erased counts (Failed EntryRead reply) own = refl
 none_erased counts (Failed (WriteStep op) reply) own = refl
+
+-- where a command is over, what it held is no more than it takes
+pub over_short : (luns : ℕ) (lim : Limits) (held held_now : List ℕ) (task : Task) (progress : Progress) → IsTaskOk luns lim task → HoldsData held task → WhereOver progress (held_now ≡ held)
+    → WhereOver progress (length held_now ≤ bytes_taken task.command)
+over_short luns lim held held_now task (Ended reply) ok holds same = let is = ap length same in omega (arith, is, holds.part, ok.within.come, ok.within.asked)
+over_short luns lim held held_now task (Failed what reply) ok holds same = let is = ap length same in omega (arith, is, holds.part, ok.within.come, ok.within.asked)
+over_short luns lim held held_now task (Sends what rest) ok holds same = tt
+over_short luns lim held held_now task (Silent what rest) ok holds same = tt
+
+-- the lists after a step, by what was held before it
+pub stepped_same : (lists : List (Option EntryList)) (task : Task) (held held_now : List ℕ) (progress : Progress) → WhereOver progress (held_now ≡ held)
+    → lists_stepped lists task held_now progress ≡ lists_stepped lists task held progress
+stepped_same lists task held held_now (Ended reply) same = ap (λ (h : List ℕ). lists_stepped lists task h (Ended reply)) same
+stepped_same lists task held held_now (Failed what reply) same = ap (λ (h : List ℕ). lists_stepped lists task h (Failed what reply)) same
+stepped_same lists task held held_now (Sends what rest) same = refl
+stepped_same lists task held held_now (Silent what rest) same = refl

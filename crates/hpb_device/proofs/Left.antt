@@ -1,5 +1,5 @@
 -- How many steps a device takes at most, after each of its calls.
-use Rattle.std.proofs.Common.{◌≡◌, Option, ℕ, zero, suc, ◌+◌, ◌-◌, ◌*◌, ◌/◌, ◌<◌, ◌≤◌, ◌==◌, Bool, true, false, not, ◌&&◌, nat_lt, min, List, [], ◌∷◌, ◌++◌, map, refl, sym, ap, subst, arith, Some, inl, inr, ◌∙◌}
+use Rattle.std.proofs.Common.{◌%◌, ◌⊎◌, ◌≡◌, Option, ℕ, zero, suc, ◌+◌, ◌-◌, ◌*◌, ◌/◌, ◌<◌, ◌≤◌, Bool, true, false, nat_lt, min, List, [], ◌∷◌, ◌++◌, map, refl, sym, ap, subst, arith, Some, inl, inr, ◌∙◌}
 use Rattle.std.proofs.lemmas.Bool.Decides.{nat_tests}
 use Rattle.std.proofs.Math.Nat.{mul-le-mul_left, mul-suc}
 use Rattle.std.specs.Prelude.{sum_by, if◌then◌else◌}
@@ -11,7 +11,7 @@ use Rattle.flash_pages.specs.declared.chip.ChipOp.TheVariants.{Read as ReadCall}
 use Rattle.collector_laws.specs.Changes.{until_room}
 use Rattle.flash_store.specs.Store.{IsSame, StoreState, collecting}
 use Rattle.hpb_cdb.specs.declared.cdb.Cdb.{Cdb}
-use Rattle.hpb_cdb.specs.declared.cdb.Cdb.TheVariants.{TestReady, Read, Write, Capacity, Sync, HpbRead, ReadBuffer}
+use Rattle.hpb_cdb.specs.declared.cdb.Cdb.TheVariants.{TestReady, Read, Write, Capacity, Sync, HpbRead, ReadBuffer, Prefetch}
 use Rattle.hpb_cdb.specs.declared.limits.Limits.{Limits}
 use Rattle.flat_unit.specs.Command.{is_write}
 use Rattle.flat_unit.specs.History.{History}
@@ -26,12 +26,14 @@ use Rattle.hpb_device.specs.declared.task.Task.{Task}
 use Rattle.hpb_device.specs.Advance.{AllTasks}
 use Rattle.hpb_device.specs.Calls.{EndsUnread, Leaves, LeavesFewer}
 use Rattle.hpb_device.specs.Keeps.{KeepsTasks, waiting_of}
-use Rattle.hpb_device.specs.Left.{KeepsNoWrite, steps_left, steps_of, tasks_left, unscanned, wait_of, write_steps}
+use Rattle.hpb_device.specs.Left.{KeepsNoWrite, asks_by, steps_left, steps_of, tasks_left, tries_by, unprogrammed_by, unscanned, wait_of, write_steps}
+use Rattle.hpb_device.specs.declared.task.Work.TheVariants.{TakeList}
+use Rattle.hpb_device.specs.Work.{work_of}
 use Rattle.hpb_device.specs.Limits.{limits_of}
 use Rattle.hpb_device.specs.Sizes.{sizes}
 use Rattle.hpb_device.specs.Standing.{DeviceStands, sizes_of}
 use Rattle.hpb_device.specs.State.{AreAtRest, AtRest, DeviceState}
-use Rattle.hpb_device.specs.Task.{bytes_given, bytes_taken, tries_entry, tries_entry_of}
+use Rattle.hpb_device.specs.Task.{IsServed, bytes_given, bytes_taken}
 
 -- the steps of the blocks of a write
 pub writes_most : (pages wait n : ℕ) → wait + 1 ≤ 2 * pages → write_steps pages wait n ≤ 2 * pages * n
@@ -53,7 +55,7 @@ pub some_left : (lim : Limits) (pages wait : ℕ) (task : Task) → 0 < steps_of
 some_left lim pages wait task = omega arith
 
 steps_wait : (lim : Limits) (pages wait : ℕ) (task : Task) → wait + 1 ≤ 2 * pages → steps_of lim pages wait task ≤ steps_of lim pages (2 * pages - 1) task
-steps_wait lim pages wait task few = let more = writes_wait pages wait ((bytes_taken task.command - 4096 * task.programmed) / 4096) few in omega (arith, more)
+steps_wait lim pages wait task few = let more = writes_wait pages wait (unprogrammed_by (work_of task.command) task.programmed) few in omega (arith, more)
 
 -- the steps of some tasks, the first of which waits no longer than any other
 pub tasks_most : (lim : Limits) (pages wait : ℕ) (tasks : List Task) → wait + 1 ≤ 2 * pages → tasks_left lim pages wait tasks ≤ sum_by (steps_of lim pages (2 * pages - 1)) tasks
@@ -83,54 +85,33 @@ pub ended_left : (lim : Limits) (pages wait now : ℕ) (old tasks : List Task) (
     → tasks_left lim pages now tasks < tasks_left lim pages wait old
 ended_left lim pages wait now old tasks task others few was gone = rw (was, gone) (without_fewer lim pages wait now task others few)
 
--- data that come leave the steps as they were
-pub data_left : (lim : Limits) (pages wait : ℕ) (task : Task) (come : ℕ) (others : List Task) → tries_entry (record task { come = come }) ≡ tries_entry task
-    → tasks_left lim pages wait (record task { come = come } ∷ others) ≡ tasks_left lim pages wait (task ∷ others)
-data_left lim pages wait task come others same =
-    ap (λ (b : Bool). (bytes_given lim task.command - task.sent + 4095) / 4096 + (if b then 1 else 0) + (bytes_taken task.command - task.asked + 32767) / 32768
-    + write_steps pages wait ((bytes_taken task.command - 4096 * task.programmed) / 4096) + 1 + sum_by (steps_of lim pages (2 * pages - 1)) others) same
-
-pub still_tries : (task : Task) (command : Cdb) (come : ℕ) → tries_entry_of command (record task { come = come }) ≡ tries_entry_of command task
-still_tries task (HpbRead lba entry n id) come = refl
-still_tries task _ come = refl
-
 -- no more steps are left than the tasks need
-at_most_one : (b : Bool) → (if b then 1 else 0) ≤ 1
-at_most_one true = omega arith
-at_most_one false = omega arith
 
-few_for : (luns : ℕ) (lim : Limits) (geometry : Geometry) (wait : ℕ) (task : Task) (command : Cdb) → wait + 1 ≤ 2 * geometry.pages
-    → (bytes_given lim command - task.sent + 4095) / 4096 + (if tries_entry_of command task then 1 else 0) + (bytes_taken command - task.asked + 32767) / 32768
-    + write_steps geometry.pages wait ((bytes_taken command - 4096 * task.programmed) / 4096) + 1
+few_for : (luns : ℕ) (lim : Limits) (geometry : Geometry) (wait sent asked programmed : ℕ) (tried : Bool) (command : Cdb) → wait + 1 ≤ 2 * geometry.pages
+    → (bytes_given lim command - sent + 4095) / 4096 + tries_by (work_of command) sent tried + asks_by (work_of command) asked
+    + write_steps geometry.pages wait (unprogrammed_by (work_of command) programmed) + 1
     ≤ bound (sizes luns lim geometry) command
-few_for luns lim geometry wait task (Write lba n) few =
-    let left = (4096 * n - 4096 * task.programmed) / 4096 in
+few_for luns lim geometry wait sent asked programmed tried (Write lba n) few =
+    let left = n - programmed in
     let all = writes_most geometry.pages wait left few in
     let more : 2 * geometry.pages * left ≤ 2 * geometry.pages * n = mul-le-mul_left (2 * geometry.pages) (omega arith) in
     omega (arith, all, more)
-few_for luns lim geometry wait task (HpbRead lba entry n id) few = one_try (task.sent == 0) (nat_lt 0 n) refl
+few_for luns lim geometry wait sent asked programmed tried (HpbRead lba entry n id) few = omega arith
+few_for luns lim geometry wait sent asked programmed tried (Read lba n) few = omega arith
+few_for luns lim geometry wait sent asked programmed tried TestReady few = omega arith
+few_for luns lim geometry wait sent asked programmed tried Capacity few = omega arith
+few_for luns lim geometry wait sent asked programmed tried (Sync lba n) few = omega arith
+few_for luns lim geometry wait sent asked programmed tried (ReadBuffer number part len) few = omega arith
+few_for luns lim geometry wait sent asked programmed tried (Prefetch lba id len) few = by_asked (nat_lt asked len)
   where
-    none : write_steps geometry.pages wait ((0 - 4096 * task.programmed) / 4096) ≡ 0
-    none = no_writes geometry.pages wait _ (omega arith)
-
-    one_try : (first more : Bool) → nat_lt 0 n ≡ more
-        → (4096 * n - task.sent + 4095) / 4096 + (if first && (more && not task.tried) then 1 else 0) + (0 - task.asked + 32767) / 32768 + write_steps geometry.pages wait ((0 - 4096 * task.programmed) / 4096) + 1 ≤ 2 * n + 1
-    one_try false more is = omega (arith, none)
-    one_try true false is = omega (arith, none)
-    one_try true true is =
-        let few = at_most_one (not task.tried) in
-        let some_block : 0 < n = grind (arith, nat_tests, is) in
-        omega (arith, few, some_block, none)
-few_for luns lim geometry wait task (Read lba n) few = let none = no_writes geometry.pages wait ((0 - 4096 * task.programmed) / 4096) (omega arith) in omega (arith, none)
-few_for luns lim geometry wait task TestReady few = let none = no_writes geometry.pages wait ((0 - 4096 * task.programmed) / 4096) (omega arith) in omega (arith, none)
-few_for luns lim geometry wait task Capacity few = let none = no_writes geometry.pages wait ((0 - 4096 * task.programmed) / 4096) (omega arith) in omega (arith, none)
-few_for luns lim geometry wait task (Sync lba n) few = let none = no_writes geometry.pages wait ((0 - 4096 * task.programmed) / 4096) (omega arith) in omega (arith, none)
-few_for luns lim geometry wait task (ReadBuffer number part len) few = let none = no_writes geometry.pages wait ((0 - 4096 * task.programmed) / 4096) (omega arith) in omega (arith, none)
-few_for luns lim geometry wait task _ few = let none = no_writes geometry.pages wait ((0 - 4096 * task.programmed) / 4096) (omega arith) in omega (arith, none)
+    by_asked : (b : Bool) → (0 - sent + 4095) / 4096 + 0 + (if b then 1 else 0) + 0 + 1 ≤ 2
+    by_asked true = omega arith
+    by_asked false = omega arith
+few_for luns lim geometry wait sent asked programmed tried _ few = omega arith
 
 pub few_of : (device : DeviceState) (wait : ℕ) (task : Task) → wait + 1 ≤ 2 * device.store.geometry.pages
     → steps_of (limits_of device.shape) device.store.geometry.pages wait task ≤ bound (sizes_of device) task.command
-few_of device wait task few = few_for device.store.luns (limits_of device.shape) device.store.geometry wait task task.command few
+few_of device wait task few = few_for device.store.luns (limits_of device.shape) device.store.geometry wait task.sent task.asked task.programmed task.tried task.command few
 
 -- sums over the tasks of a device and of its history
 sums_waiting : (f : Task → ℕ) (g : Waiting → ℕ) (others : List Task) → ((task : Task) → f task ≤ g (waiting_of task)) → sum_by f others ≤ sum_by g (map waiting_of others)
@@ -182,15 +163,18 @@ pub keeps_left : (device : DeviceState) (task : Task) → 1 ≤ device.store.geo
 keeps_left device task some = let more = more_left device (wait_of device.store) device.tasks task (wait_most device.store some) in omega (arith, more)
 
 -- the collector changes nothing for tasks of which none writes
-no_write_taken : (command : Cdb) → is_write command ≡ false → bytes_taken command ≡ 0
-no_write_taken (Write lba n) is = absurd (false≢true (sym is))
-no_write_taken _ is = refl
+no_write_left : (command : Cdb) (programmed : ℕ) → is_write command ≡ false → unprogrammed_by (work_of command) programmed ≡ 0
+no_write_left (Write lba n) programmed is = absurd (false≢true (sym is))
+no_write_left (Read lba n) programmed is = refl
+no_write_left (HpbRead lba entry n id) programmed is = refl
+no_write_left (Prefetch lba id len) programmed is = refl
+no_write_left (ReadBuffer region sub len) programmed is = refl
+no_write_left _ programmed is = refl
 
 pub quiet_left : (lim : Limits) (pages wait now : ℕ) (tasks : List Task) → KeepsNoWrite tasks → tasks_left lim pages now tasks ≡ tasks_left lim pages wait tasks
 quiet_left lim pages wait now [] none = refl
 quiet_left lim pages wait now (head ∷ others) none =
-    let taken = no_write_taken head.command none.0 in
-    let zero_left : (bytes_taken head.command - 4096 * head.programmed) / 4096 ≡ 0 = omega (arith, taken) in
+    let zero_left = no_write_left head.command head.programmed none.0 in
     let before = no_writes pages wait _ zero_left in
     let after = no_writes pages now _ zero_left in
     omega (arith, before, after)
@@ -203,30 +187,47 @@ going_left device head others was =
     ap (tasks_left (limits_of device.shape) device.store.geometry.pages (wait_of device.store)) was in
     omega (arith, some, all)
 
-tries_programmed : (task : Task) (command : Cdb) (n : ℕ) → tries_entry_of command (record task { programmed = n }) ≡ tries_entry_of command task
-tries_programmed task (HpbRead lba entry n id) k = refl
-tries_programmed task _ k = refl
-
 -- the next block of a write was programmed, or waits for one step of the collector less
-pub programmed_fewer : (lim : Limits) (pages wait now : ℕ) (task : Task) (n : ℕ) → now + 1 ≤ 2 * pages → bytes_taken task.command ≡ 4096 * n → task.programmed < n
+pub programmed_fewer : (lim : Limits) (pages wait now : ℕ) (task : Task) (lba n : ℕ) → now + 1 ≤ 2 * pages → task.command ≡ Write lba n → task.programmed < n
     → steps_of lim pages now (record task { programmed = task.programmed + 1 }) < steps_of lim pages wait task
-programmed_fewer lim pages wait now task n few taken below =
+programmed_fewer lim pages wait now task lba n few is below =
     let more = n - (task.programmed + 1) in
-    let before : (bytes_taken task.command - 4096 * task.programmed) / 4096 ≡ suc more = omega (arith, taken, below) in
-    let after : (bytes_taken task.command - 4096 * (task.programmed + 1)) / 4096 ≡ more = omega (arith, taken, below) in
+    let left : ℕ → ℕ = λ done. unprogrammed_by (work_of task.command) done in
+    let before : left task.programmed ≡ suc more = ap (λ (c : Cdb). unprogrammed_by (work_of c) task.programmed) is ∙ omega (arith, below) in
+    let after : left (task.programmed + 1) ≡ more = ap (λ (c : Cdb). unprogrammed_by (work_of c) (task.programmed + 1)) is in
     let most = writes_most pages now more few in
-    let all_before : write_steps pages wait ((bytes_taken task.command - 4096 * task.programmed) / 4096) ≡ 2 * pages * more + wait + 1 = ap (write_steps pages wait) before in
-    let all_after : write_steps pages now ((bytes_taken task.command - 4096 * (task.programmed + 1)) / 4096) ≡ write_steps pages now more = ap (write_steps pages now) after in
-    rw (tries_programmed task task.command (task.programmed + 1)) (omega (arith, most, all_before, all_after))
+    let all_before : write_steps pages wait (left task.programmed) ≡ 2 * pages * more + wait + 1 = ap (write_steps pages wait) before in
+    let all_after : write_steps pages now (left (task.programmed + 1)) ≡ write_steps pages now more = ap (write_steps pages now) after in
+    omega (arith, most, all_before, all_after)
 
-pub collected_fewer : (lim : Limits) (pages wait now : ℕ) (task : Task) (n : ℕ) → now < wait → bytes_taken task.command ≡ 4096 * n → task.programmed < n
+pub collected_fewer : (lim : Limits) (pages wait now : ℕ) (task : Task) (lba n : ℕ) → now < wait → task.command ≡ Write lba n → task.programmed < n
     → steps_of lim pages now task < steps_of lim pages wait task
-collected_fewer lim pages wait now task n less taken below =
+collected_fewer lim pages wait now task lba n less is below =
     let more = n - (task.programmed + 1) in
-    let left : (bytes_taken task.command - 4096 * task.programmed) / 4096 ≡ suc more = omega (arith, taken, below) in
-    let before : write_steps pages wait ((bytes_taken task.command - 4096 * task.programmed) / 4096) ≡ 2 * pages * more + wait + 1 = ap (write_steps pages wait) left in
-    let after : write_steps pages now ((bytes_taken task.command - 4096 * task.programmed) / 4096) ≡ 2 * pages * more + now + 1 = ap (write_steps pages now) left in
+    let left : unprogrammed_by (work_of task.command) task.programmed ≡ suc more = ap (λ (c : Cdb). unprogrammed_by (work_of c) task.programmed) is ∙ omega (arith, below) in
+    let before : write_steps pages wait (unprogrammed_by (work_of task.command) task.programmed) ≡ 2 * pages * more + wait + 1 = ap (write_steps pages wait) left in
+    let after : write_steps pages now (unprogrammed_by (work_of task.command) task.programmed) ≡ 2 * pages * more + now + 1 = ap (write_steps pages now) left in
     omega (arith, less, before, after)
+
+-- the next data were asked for
+pub asked_fewer : (lim : Limits) (pages wait : ℕ) (task : Task) (count : ℕ) → IsServed lim task.command → task.asked < bytes_taken task.command
+    → (task.asked % 4096 ≡ 0) ⊎ (task.asked ≡ bytes_taken task.command) → count ≡ min 32768 (bytes_taken task.command - task.asked)
+    → steps_of lim pages wait (record task { asked = task.asked + count }) < steps_of lim pages wait task
+asked_fewer lim pages wait task count served more whole counted =
+    let fewer = by_command task.command task.asked served more whole counted in
+    omega (arith, fewer)
+  where
+    some : (asked bytes : ℕ) → asked < bytes → bytes ≤ asked + count → asks_by (TakeList bytes) (asked + count) < asks_by (TakeList bytes) asked
+    some asked bytes more all =
+        let before : nat_lt asked bytes ≡ true = grind (arith, nat_tests, more) in
+        let after : nat_lt (asked + count) bytes ≡ false = grind (arith, nat_tests, all) in
+        rw (before, after) (omega arith)
+
+    by_command : (command : Cdb) (asked : ℕ) → IsServed lim command → asked < bytes_taken command → (asked % 4096 ≡ 0) ⊎ (asked ≡ bytes_taken command)
+        → count ≡ min 32768 (bytes_taken command - asked) → asks_by (work_of command) (asked + count) < asks_by (work_of command) asked
+    by_command (Write lba n) asked served more whole counted = omega (arith, more, counted)
+    by_command (Prefetch lba id len) asked served more whole counted = some asked len more (omega (arith, served.4, more, counted))
+    by_command _ asked served more whole counted = absurd (omega arith)
 
 -- where the collector is as it was, the first task waits as long as before
 pub wait_same : (old new : StoreState) → IsSame old new → collecting new ≡ collecting old → wait_of new ≡ wait_of old

@@ -7,6 +7,7 @@ pub mod CountingCalls
 pub mod CountingRows
 pub mod CountingSteps
 pub mod Failures
+pub mod Fetching
 pub mod Going
 pub mod Harmless
 pub mod Hinting

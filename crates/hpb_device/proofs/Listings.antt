@@ -65,7 +65,8 @@ use Rattle.hpb_device.specs.State.{DeviceState}
 use Rattle.hpb_device.specs.Task.{IsQueue, IsWaiting, bytes_given, bytes_taken}
 use Rattle.hpb_device.proofs.Entries.{ListsNone, head_listed, reply_lists_none, sent_lists_none, answer_lists_none}
 use Rattle.hpb_device.proofs.Chips.{pages_of}
-use Rattle.hpb_device.proofs.Commands.{is_written}
+use Rattle.flat_unit.specs.Command.{is_write}
+use Rattle.hpb_device.proofs.Commands.{all_programmed, is_written}
 use Rattle.hpb_device.proofs.Leaving.{IsOfTask}
 use Rattle.hpb_device.proofs.StepStands.{IsReady, Turn, head_in, none_programmed, others_in, sizes_same, tasks_at}
 use Rattle.hpb_device.proofs.Transfers.{transfer_is}
@@ -349,8 +350,8 @@ same_task : (task rest other : Task) → rest ≡ other → IsSameTask task othe
 same_task task rest other is same = subst (IsSameTask task) (sym is) same
 
 sent_same : (lim : Limits) (old : StoreState) (what : Transfer) (task rest : Task) (out : List ℕ) → Transfers lim old what task rest out → IsSameTask task rest
-sent_same lim old LookedUp task rest out shows = same_task task rest _ shows.sends.task_is (record { lun = refl; command = refl; programmed = refl })
-sent_same lim old ByEntry task rest out finds = same_task task rest _ finds.sends.task_is (record { lun = refl; command = refl; programmed = refl })
+sent_same lim old LookedUp task rest out sends = same_task task rest _ sends.task_is (record { lun = refl; command = refl; programmed = refl })
+sent_same lim old ByEntry task rest out sends = same_task task rest _ sends.task_is (record { lun = refl; command = refl; programmed = refl })
 sent_same lim old EntryList task rest out lists = same_task task rest _ lists.1.task_is (record { lun = refl; command = refl; programmed = refl })
 sent_same lim old UnitCapacity task rest out tells = same_task task rest _ tells.task_is (record { lun = refl; command = refl; programmed = refl })
 sent_same lim old Ready task rest out asks = same_task task rest _ asks.1.task_is (record { lun = refl; command = refl; programmed = refl })
@@ -422,7 +423,7 @@ programmed_listings had pages turn rest start programs head stand =
     k = task.programmed
 
     write : (lba : ℕ) × (n : ℕ) × (task.command ≡ Write lba n)
-    write = is_written task.command (4096 * k) (omega (arith, programs.more, ready.ok.within.come, ready.ok.within.asked))
+    write = is_written task.command programs.write
 
     lba : ℕ
     lba = write.0
@@ -470,7 +471,8 @@ good_listings had pages turn segment residual out complete sent left same stand 
           (has_ended d now d.store.luns (limits_of d.shape) turn.others turn.ready.waiting left) same turn.same turn.shape stand
       | inr write ↦
           let taken : bytes_taken task.command ≡ 4096 * write.1 = ap bytes_taken write.2 in
-          let all : task.programmed ≡ write.1 = omega (arith, complete.programmed, complete.come, taken) in
+          let done = all_programmed task (ap is_write write.2) complete.programmed in
+          let all : task.programmed ≡ write.1 = omega (arith, done, complete.come, taken) in
           let good = pages_good s had kept (current d.store.pages) e (Device out) t ws write.0 write.1 write.2 all leaves had_pages in
           let ended = pages_as s had (left_with ws kept) (kept_now now) (current d.store.pages) (e ▹ Device out) fewer good in
           listings_now had pages d now (e ▹ Device out) turn.same turn.shape stand.whole
@@ -541,7 +543,7 @@ pub call_failed_listings : (had : Place → Bool) (pages : ℕ) (d : DeviceState
 call_failed_listings had pages d e op stand = quiet_listings had pages d d e (CallFailed op) (λ p. refl) (λ p. refl) (λ p one. one) refl (same_store d d refl) refl stand
 
 -- after an entry was tried in vain
-missed_listings : (had : Place → Bool) (pages : ℕ) (turn : Turn) (rest : Task) → Misses turn.old.store turn.task rest → turn.new.store.pages ≡ turn.old.store.pages
+missed_listings : (had : Place → Bool) (pages : ℕ) (turn : Turn) (rest : Task) → Misses turn.task rest → turn.new.store.pages ≡ turn.old.store.pages
     → turn.new.tasks ≡ rest ∷ turn.others
     → ListingStands had pages turn.old turn.history → ListingStands had pages turn.new turn.history
 missed_listings had pages turn rest misses same head stand =

@@ -1,5 +1,5 @@
 -- Steps that send nothing, and when they may be made.
-use Rattle.std.proofs.Common.{◌≡◌, ◌⊎◌, ℕ, Option, Some, ◌==◌, Bool, true, false, not, ◌&&◌, ◌||◌, nat_lt, List, [], ◌∷◌, ◌++◌, map, refl, sym, ◌∙◌, ap, subst, arith, inl, inr}
+use Rattle.std.proofs.Common.{◌≡◌, ◌⊎◌, ℕ, ◌/◌, Option, Some, ◌==◌, Bool, true, false, ◌||◌, nat_lt, List, [], ◌∷◌, ◌++◌, map, refl, sym, ◌∙◌, ap, subst, arith, inl, inr, None}
 use Rattle.std.specs.Prelude.{is_some}
 use Rattle.std.specs.List.{list_any}
 use Rattle.std.proofs.lemmas.Bool.{false≢true}
@@ -8,14 +8,15 @@ use Rattle.hpb_cdb.specs.declared.cdb.Cdb.{Cdb}
 use Rattle.hpb_cdb.specs.declared.cdb.Cdb.TheVariants.{Write, HpbRead}
 use Rattle.flat_unit.specs.Command.{is_write}
 use Rattle.flat_unit.specs.History.{History}
-use Rattle.flat_unit.specs.Lists.{Fetched, entry_of_block, lists_after}
+use Rattle.flat_unit.specs.Lists.{entry_of_block, lists_after}
 use Rattle.flat_unit.specs.Replays.{has_entry, keeps_head}
 use Rattle.flat_unit.specs.Reply.{has_tag}
-use Rattle.flat_unit.specs.Sizes.{Sizes}
 use Rattle.flat_unit.specs.Stands.{First}
 use Rattle.flat_unit.specs.Task.{Task as Waiting}
 use Rattle.flat_unit.proofs.standing.OneCall.{queue_of}
-use Rattle.flat_unit.proofs.entries.Fetched.{no_lists}
+use Rattle.hpb_device.proofs.Fetching.{entry_is}
+use Rattle.hpb_device.specs.Lists.{ListsStand}
+use Rattle.entry_lists.specs.Lists.{EntryList}
 use Rattle.hpb_device.specs.declared.advance.Progress.{Progress}
 use Rattle.hpb_device.specs.declared.advance.Progress.TheVariants.{Sends, Silent, Ended, Failed}
 use Rattle.hpb_device.specs.declared.advance.Internal.TheVariants.{Missed, Programmed, Collected}
@@ -35,8 +36,8 @@ use Rattle.hpb_device.specs.Limits.{limits_of}
 use Rattle.hpb_device.specs.Standing.{DeviceStands, kept_of, sizes_of}
 use Rattle.flat_unit.specs.Tasks.{AreApart}
 use Rattle.hpb_device.specs.State.{DeviceState, IsIdleIn}
-use Rattle.hpb_device.specs.Task.{IsTaskOk, WasSilent, tries_entry, tries_entry_of}
-use Rattle.hpb_device.proofs.Commands.{is_written, tries_of}
+use Rattle.hpb_device.specs.Task.{IsTaskOk, WasSilent, entry_of, next_entry, to_try}
+use Rattle.hpb_device.proofs.Commands.{tries_of}
 use Rattle.hpb_device.proofs.Going.{refusing_sends, sent_or_silent}
 use Rattle.hpb_device.proofs.StepStands.{given_is}
 
@@ -47,14 +48,12 @@ silent_after segment old new task others (Sends what rest) result out ok advance
 silent_after segment old new task others (Silent Missed rest) result out ok advances leaves silent = rw (leaves.0) (inl (ap (λ (t : Task). t.tried) advances.0.0.task_is))
 silent_after segment old new task others (Silent Programmed rest) result out ok advances leaves silent =
     let programs = advances.0.1 in
-    let write = is_written task.command task.programmed (omega (arith, ok.within.asked, ok.within.come, programs.more)) in
-    let is : is_write rest.command ≡ true = ap (λ (t : Task). is_write t.command) programs.task_is ∙ ap is_write write.2 in
+    let is : is_write rest.command ≡ true = ap (λ (t : Task). is_write t.command) programs.task_is ∙ programs.write in
     let asked : rest.asked ≡ task.asked = ap (λ (t : Task). t.asked) programs.task_is in
     rw (leaves.0) (inr (is, omega (arith, asked, ok.within.come, programs.more)))
 silent_after segment old new task others (Silent (Collected moved) rest) result out ok advances leaves silent =
     let collects = advances.0 in
-    let write = is_written task.command task.programmed (omega (arith, ok.within.asked, ok.within.come, collects.more)) in
-    let is : is_write rest.command ≡ true = ap (λ (t : Task). is_write t.command) collects.task_is ∙ ap is_write write.2 in
+    let is : is_write rest.command ≡ true = ap (λ (t : Task). is_write t.command) collects.task_is ∙ collects.write in
     let asked : rest.asked ≡ task.asked = ap (λ (t : Task). t.asked) collects.task_is in
     rw (leaves.0) (inr (is, omega (arith, asked, ok.within.come, collects.more)))
 silent_after segment old new task others (Ended reply) result out ok advances leaves silent = absurd (sent_or_silent result _ leaves.2 silent)
@@ -78,45 +77,37 @@ going_was_silent Scanning old new result out scans busy silent was = elim was [
 going_was_silent Ready old new result out goes busy silent was = silent_after _ old new goes.task goes.others goes.progress result out goes.ok goes.advances goes.leaves silent
 going_was_silent Foreign old new result out refuses busy silent was = absurd (false≢true (sym silent ∙ refusing_sends old new result out refuses busy))
 
--- a task that tries an entry was not silent
-not_written : (command : Cdb) (task : Task) → tries_entry_of command task ≡ true → is_write command ≡ false
-not_written (Write lba n) task is = absurd (false≢true is)
-not_written _ task is = refl
+-- a task that is to try an entry was not silent
+write_has_none : (lists : List (Option EntryList)) (lun : ℕ) (command : Cdb) (k : ℕ) → is_write command ≡ true → entry_of lists lun command k ≡ None
+write_has_none lists lun (Write lba n) k is = refl
+write_has_none lists lun (HpbRead lba entry n id) k is = absurd (false≢true is)
+write_has_none lists lun _ k is = refl
 
-not_tried : (command : Cdb) (task : Task) → tries_entry_of command task ≡ true → task.tried ≡ false
-not_tried (HpbRead lba entry n id) task is = by_tried (task.sent == 0) (nat_lt 0 n) task.tried refl is
-  where
-    by_tried : (a b c : Bool) → task.tried ≡ c → (a && (b && not c)) ≡ true → task.tried ≡ false
-    by_tried a b false at is = at
-    by_tried true true true at is = absurd (false≢true is)
-    by_tried true false true at is = absurd (false≢true is)
-    by_tried false b true at is = absurd (false≢true is)
-not_tried _ task is = absurd (false≢true is)
+no_entry : {x : ℕ} → None ≡ Some x → ⊥
+no_entry is = cc
 
-pub tries_was_silent : (tasks : List Task) (task : Task) (others : List Task) → tasks ≡ task ∷ others → tries_entry task ≡ true → WasSilent tasks → ⊥
-tries_was_silent tasks task others is tries silent = elim (subst WasSilent is silent) [
-  | inl tried ↦ false≢true (sym (not_tried task.command task tries) ∙ tried)
-  | inr write ↦ false≢true (sym (not_written task.command task tries) ∙ write.0)
-]
+pub tries_was_silent : (lists : List (Option EntryList)) (tasks : List Task) (task : Task) (others : List Task) (x : ℕ) → tasks ≡ task ∷ others
+    → to_try (next_entry lists task) task ≡ Some x → WasSilent tasks → ⊥
+tries_was_silent lists tasks task others x is tries silent =
+    let at = tries_of (next_entry lists task) x task tries in
+    elim (subst WasSilent is silent) [
+      | inl tried ↦ false≢true (sym at.untried ∙ tried)
+      | inr write ↦ no_entry (sym (write_has_none lists task.lun task.command (task.sent / 4096) write.0) ∙ at.is)
+    ]
 
 -- the entry that a task tries is one that its next block has
-entry_found : (s : Sizes) (lists : List Fetched) (waiting : Waiting) (command : Cdb) (task : Task) → lists ≡ [] → tries_entry_of command task ≡ true
-    → is_some (entry_of_block lists waiting command 0) ≡ true
-entry_found s lists waiting (HpbRead lba entry n id) task none is = rw none refl
-entry_found s lists waiting _ task none is = absurd (false≢true is)
-
-pub tries_has_entry : (device : DeviceState) (task : Task) (others : List Task) (tasks : List Waiting) (e : History) → device.tasks ≡ task ∷ others → KeepsTasks device.tasks device.held tasks
-    → IsTaskOk device.store.luns (limits_of device.shape) task → tries_entry task ≡ true → has_entry (sizes_of device) e tasks ≡ true
-tries_has_entry device task others tasks e was keeps ok tries =
+pub tries_has_entry : (device : DeviceState) (task : Task) (others : List Task) (tasks : List Waiting) (e : History) (x : ℕ) → device.tasks ≡ task ∷ others → KeepsTasks device.tasks device.held tasks
+    → IsTaskOk device.store.luns (limits_of device.shape) task → ListsStand device e → to_try (next_entry device.lists task) task ≡ Some x → has_entry (sizes_of device) e tasks ≡ true
+tries_has_entry device task others tasks e x was keeps ok stand tries =
     let s = sizes_of device in
     let k = subst (λ (ts : List Task). KeepsTasks ts device.held tasks) was keeps in
-    let at = tries_of (limits_of device.shape) task.command task tries in
+    let at = tries_of (next_entry device.lists task) x task tries in
     let given = given_is s (limits_of device.shape) task.command refl refl refl refl ok.accepted.served in
-    let none : lists_after s e ≡ [] = no_lists s e refl in
-    let sent : k.0.sent ≡ 0 = k.1.sent ∙ at.none_sent in
-    let more : nat_lt 0 (Rattle.flat_unit.specs.Command.bytes_given s task.command) ≡ true = grind (arith, nat_tests, given, at.some) in
-    let found = entry_found s (lists_after s e) k.0 task.command task none tries in
-    rw (k.2, sent, k.1.command, more) found
+    let more : nat_lt task.sent (Rattle.flat_unit.specs.Command.bytes_given s task.command) ≡ true = grind (arith, nat_tests, given, at.more, ok.accepted.given) in
+    let found : is_some (entry_of_block (lists_after s e) k.0 task.command (task.sent / 4096)) ≡ true =
+    ap is_some (entry_is device.lists s e k.0 task.command (task.sent / 4096) (limits_of device.shape) stand (omega (arith, k.1.lun, ok.accepted.lun)) ok.accepted.served
+    ∙ (ap (λ (lun : ℕ). entry_of device.lists lun task.command (task.sent / 4096)) k.1.lun ∙ at.is)) in
+    rw (k.2, k.1.sent, k.1.command, more) found
 
 -- a command that is kept behind the first task
 more_silent : (tasks : List Task) (task : Task) → WasSilent tasks → WasSilent (tasks ++ task ∷ [])

@@ -13,7 +13,7 @@ use Rattle.flash_pages.proofs.Programming.{erased_count-programmed, length-unit_
 use Rattle.hpb_cdb.specs.declared.cdb.Cdb.{Cdb}
 use Rattle.hpb_cdb.specs.declared.limits.Limits.{Limits}
 use Rattle.hpb_cdb.specs.Cdb.{blocks_of}
-use Rattle.hpb_cdb.specs.declared.cdb.Cdb.TheVariants.{TestReady, Read, Write, Capacity, Sync, HpbRead, ReadBuffer, InactOne, InactAll}
+use Rattle.hpb_cdb.specs.declared.cdb.Cdb.TheVariants.{TestReady, Read, Write, Capacity, Sync, HpbRead, ReadBuffer, InactOne, InactAll, Prefetch}
 use Rattle.upiu_wire.specs.Upiu.{upiu_out}
 use Rattle.flat_unit.specs.declared.event.Event.TheVariants.{Device, Failed as CallFailed}
 use Rattle.flat_unit.specs.Command.{is_write, needed}
@@ -61,7 +61,7 @@ use Rattle.hpb_device.specs.Sizes.{sizes}
 use Rattle.hpb_device.specs.Standing.{sizes_of, kept_of, programmed_of, DeviceStands}
 use Rattle.hpb_device.specs.State.{DeviceState, IsSound}
 use Rattle.hpb_device.specs.Task.{IsTaskOk, IsWaiting, IsQueue, IsServed, bytes_given, bytes_taken}
-use Rattle.hpb_device.proofs.Commands.{is_written, reads, tries_of}
+use Rattle.hpb_device.proofs.Commands.{is_written, reads, all_programmed, asked_whole, asks_flat}
 use Rattle.hpb_device.proofs.Chips.{pages_of}
 use Rattle.hpb_device.proofs.Leaving.{IsOfTask}
 use Rattle.flat_unit.proofs.entries.Listed.{length-entries_from}
@@ -236,7 +236,7 @@ given_is s lim Capacity block units region sub ok = refl
 given_is s lim (Sync lba n) block units region sub ok = refl
 given_is s lim (InactOne number) block units region sub ok = refl
 given_is s lim InactAll block units region sub ok = refl
-given_is s lim _ block units region sub ok = absurd ok
+given_is s lim (Prefetch lba id len) block units region sub ok = refl
 
 taken_is : (s : Sizes) (lim : Limits) (command : Cdb) → s.block ≡ 4096 → IsServed lim command → Rattle.flat_unit.specs.Command.bytes_taken s command ≡ bytes_taken command
 taken_is s lim (Write lba n) block ok = ap (λ (b : ℕ). b * n) block
@@ -248,7 +248,7 @@ taken_is s lim Capacity block ok = refl
 taken_is s lim (Sync lba n) block ok = refl
 taken_is s lim (InactOne region) block ok = refl
 taken_is s lim InactAll block ok = refl
-taken_is s lim _ block ok = absurd ok
+taken_is s lim (Prefetch lba id len) block ok = refl
 
 -- what a command that reads blocks is to the flat unit
 pub record ReadsAt (s : Sizes) (task : Waiting) (command : Cdb) : Type 0 where
@@ -341,7 +341,7 @@ steps_told turn rest out tells pages held head =
     (ap (λ (k : ℕ). record t { sent = k }) count) (holds_same turn now_task refl held)
     (subst (λ (b : List ℕ). StandsIn turn (with_sent (length bytes) t ∷ others_in turn) (programmed_of d.tasks) (turn.history ▹ Device b)) (sym sent) step)
 
--- the next data of a write are asked for
+-- the next data of a command are asked for
 steps_asked : (turn : Turn) (rest : Task) (count : ℕ) (out : List ℕ) → Asks turn.task rest count out → turn.new.store.pages ≡ turn.old.store.pages → turn.new.held ≡ []
     → turn.new.tasks ≡ rest ∷ turn.others
     → DeviceStands turn.new turn.first (turn.history ▹ Device out)
@@ -351,11 +351,9 @@ steps_asked turn rest count out asks pages held head =
     let ready = turn.ready in
     let t = head_in turn in
     let s = sizes_of d in
-    let is = (is_written task.command task.asked asks.more).2 in
-    let taken : bytes_taken task.command ≡ Rattle.flat_unit.specs.Command.bytes_taken s task.command =
-    ap bytes_taken is ∙ sym (ap (Rattle.flat_unit.specs.Command.bytes_taken s) is) in
-    let at_once : count ≡ asked_at_once s t task.command =
-    asks.counted ∙ (ap (λ (c : Cdb). min 32768 (bytes_taken c - task.asked)) is ∙ sym (ap (asked_at_once s t) is)) in
+    let flat_asks = asks_flat s t task.command (limits_of d.shape) refl ready.ok.accepted.served asks.more ready.ok.within.whole_asked in
+    let taken : bytes_taken task.command ≡ Rattle.flat_unit.specs.Command.bytes_taken s task.command = sym flat_asks.0 in
+    let at_once : count ≡ asked_at_once s t task.command = asks.counted ∙ flat_asks.1 in
     let allows : Allows s t (Ask count) = (sym ready.goes ∙ sym ready.only.counted, subst (λ (n : ℕ). task.asked < n) taken asks.more, at_once) in
     let step = stands_asked s turn.first (kept_of turn.at.erases d (t ∷ others_in turn)) turn.history t (others_in turn) count (fits_wire turn) allows (at_head turn) in
     let now_task : Task = record task { asked = task.asked + count } in
@@ -366,8 +364,8 @@ steps_asked turn rest count out asks pages held head =
 -- a UPIU is sent, and the head goes on
 steps_sent : (turn : Turn) (what : Transfer) (rest : Task) (out : List ℕ) → Transfers (limits_of turn.old.shape) turn.old.store what turn.task rest out → turn.new.store.pages ≡ turn.old.store.pages
     → turn.new.held ≡ held_after what turn.old.held → turn.new.tasks ≡ rest ∷ turn.others → DeviceStands turn.new turn.first (turn.history ▹ Device out)
-steps_sent turn LookedUp rest out shows = steps_shown turn rest out shows.sends
-steps_sent turn ByEntry rest out finds = steps_shown turn rest out finds.sends
+steps_sent turn LookedUp rest out sends = steps_shown turn rest out sends
+steps_sent turn ByEntry rest out sends = steps_shown turn rest out sends
 steps_sent turn EntryList rest out lists = steps_listed turn rest lists.0 out lists.1
 steps_sent turn UnitCapacity rest out tells = steps_told turn rest out tells
 steps_sent turn Ready rest out asks = steps_asked turn rest asks.0 out asks.1
@@ -398,14 +396,15 @@ steps_programmed turn rest start programs held head =
     let t = head_in turn in
     let s = sizes_of d in
     let k = task.programmed in
-    let command = is_written task.command (4096 * k) (omega (arith, programs.more, ready.ok.within.come, ready.ok.within.asked)) in
+    let command = is_written task.command programs.write in
     let lba = command.0 in
     let n = command.1 in
     let is = command.2 in
     let taken : bytes_taken task.command ≡ 4096 * n = ap bytes_taken is in
     let standing : StandsIn turn (t ∷ ws) k turn.history = subst (λ (m : ℕ). StandsIn turn (t ∷ ws) m turn.history) (ap programmed_of turn.was) (at_head turn) in
     let below : k < n = omega (arith, programs.more, ready.ok.within.come, ready.ok.within.asked, taken) in
-    let blocks : k < length xs / 4096 = omega (arith, programs.more, ready.goes, ready.ok.within.whole_asked, ready.only.counted) in
+    let whole_asked = asked_whole task.command task.asked n is ready.ok.within.whole_asked in
+    let blocks : k < length xs / 4096 = omega (arith, programs.more, ready.goes, whole_asked, ready.only.counted) in
     let come : k < blocks_of_head s (t ∷ ws) = subst (λ (c : Cdb). k < whole_blocks s c xs) (sym is) blocks in
     let unit = unit_of d.store.luns d.store.units d.store.pages in
     let whole : length unit ≡ s.luns * s.units = length-unit_of d.store.luns d.store.units d.store.pages ∙ ap (λ (u : ℕ). d.store.luns * u) ready.units in
@@ -431,7 +430,7 @@ steps_programmed turn rest start programs held head =
     (subst (λ (ts : List Task). KeepsTasks ts now.held (flat now_task xs ∷ ws)) (sym is_head) (holds_same turn now_task refl held)) (counted_in turn) turn.sound step
 
 -- an entry was tried in vain
-steps_missed : (turn : Turn) (rest : Task) → Misses turn.old.store turn.task rest → turn.new.store.pages ≡ turn.old.store.pages → turn.new.held ≡ turn.old.held
+steps_missed : (turn : Turn) (rest : Task) → Misses turn.task rest → turn.new.store.pages ≡ turn.old.store.pages → turn.new.held ≡ turn.old.held
     → turn.new.tasks ≡ rest ∷ turn.others
     → DeviceStands turn.new turn.first turn.history
 steps_missed turn rest misses pages held head =
@@ -476,7 +475,8 @@ steps_good turn segment out short complete sent none pages =
       | inl other ↦ stands_ended s turn.first kept turn.history t ws segment (fits_wire turn) other allows (at_head turn)
       | inr write ↦
           let taken : bytes_taken task.command ≡ 4096 * write.1 = ap bytes_taken write.2 in
-          let all : programmed_of d.tasks ≡ write.1 = ap programmed_of turn.was ∙ omega (arith, complete.programmed, complete.come, taken) in
+          let done = all_programmed task (ap is_write write.2) complete.programmed in
+          let all : programmed_of d.tasks ≡ write.1 = ap programmed_of turn.was ∙ omega (arith, done, complete.come, taken) in
           stands_good s turn.first kept turn.history t ws write.0 write.1 segment (fits_wire turn) write.2 all allows (at_head turn)
     ] in
     without turn (turn.history ▹ Device out) none pages (subst After (sym is_out) step)
@@ -506,10 +506,11 @@ steps_full turn out full sent none pages =
     let ready = turn.ready in
     let xs = ready.only.come in
     let s = sizes_of turn.old in
-    let command = is_written task.command (4096 * task.programmed) (omega (arith, full.more, ready.ok.within.come, ready.ok.within.asked)) in
+    let command = is_written task.command full.write in
+    let whole_asked = asked_whole task.command task.asked command.1 command.2 ready.ok.within.whole_asked in
     let may : MayEndWith task.command no_number = subst (λ (c : Cdb). MayEndWith c no_number) (sym command.2) (inr (inl refl)) in
     let standing = at_head turn in
-    let blocks : task.programmed < length xs / 4096 = omega (arith, full.more, ready.goes, ready.ok.within.whole_asked, ready.only.counted) in
+    let blocks : task.programmed < length xs / 4096 = omega (arith, full.more, ready.goes, whole_asked, ready.only.counted) in
     let come : task.programmed < blocks_of_head s (head_in turn ∷ others_in turn) = subst (λ (c : Cdb). task.programmed < whole_blocks s c xs) (sym command.2) blocks in
     let kept : programmed_of turn.old.tasks ≡ task.programmed = ap programmed_of turn.was in
     let few : 2 ^ 62 ≤ turn.first.next + moves turn.history + blocks_come s turn.history = omega (arith, standing.at_most, come, kept, full.ended) in
@@ -533,14 +534,14 @@ steps_failed : (turn : Turn) (what : FailedCall) (reply : Reply) (out : List ℕ
     → (turn.new.tasks ≡ turn.others) × (turn.new.held ≡ []) → turn.new.store.pages ≡ turn.old.store.pages → DeviceStands turn.new turn.first (turn.history ▹ CallFailed (op_of what) ▹ Device out)
 steps_failed turn MappedRead reply out fails sent none pages = steps_unread turn ReadCall reply out fails.due.0 refl fails.answer sent none pages
 steps_failed turn EntryRead reply out fails sent none pages =
-    steps_unread turn ReadCall reply out (tries_of (limits_of turn.old.shape) turn.task.command turn.task fails.due.0).reads refl fails.answer sent none pages
+    steps_unread turn ReadCall reply out fails.due.0 refl fails.answer sent none pages
 steps_failed turn (WriteStep op) reply out fails sent none pages =
     let task = turn.task in
     let ready = turn.ready in
     let e = turn.history in
     let s = sizes_of turn.old in
     let standing = stands_failed s turn.first (kept_of turn.at.erases turn.old (head_in turn ∷ others_in turn)) e op (at_head turn) in
-    let command = is_written task.command (4096 * task.programmed) (omega (arith, fails.due.0, ready.ok.within.come, ready.ok.within.asked)) in
+    let command = is_written task.command fails.due.0 in
     let may : MayEndWith task.command write_failed = subst (λ (c : Cdb). MayEndWith c write_failed) (sym command.2) (inl refl) in
     steps_cut turn (e ▹ CallFailed op) WriteFailed write_failed out refl may (cause_write s ⊥ turn.first.next e op)
     (sent ∙ ap (λ (r : Reply). upiu_out (reply_upiu r)) fails.answer) none pages standing

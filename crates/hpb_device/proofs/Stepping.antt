@@ -1,5 +1,5 @@
 -- What a step of a device leaves, by what is known of its chip.
-use Rattle.std.proofs.Common.{◌≡◌, ◌≢◌, ℕ, ◌≤◌, ◌<◌, ◌^◌, Bool, true, false, List, [], ◌∷◌, length, refl, sym, ◌∙◌, ap, subst, arith}
+use Rattle.std.proofs.Common.{◌*◌, ◌≡◌, ◌≢◌, ℕ, ◌≤◌, ◌<◌, ◌^◌, Bool, true, false, List, [], ◌∷◌, length, refl, sym, ◌∙◌, ap, subst, arith}
 use Rattle.std.specs.Prelude.{IsTrue}
 use Rattle.std.specs.Bool.{OnFalse}
 use Rattle.std.specs.List.{AllByRecursion}
@@ -20,16 +20,17 @@ use Rattle.hpb_device.specs.declared.advance.Progress.TheVariants.{Sends, Silent
 use Rattle.hpb_device.specs.declared.counts.Counts.{Counts}
 use Rattle.hpb_device.specs.declared.device.Stepped.{Stepped}
 use Rattle.hpb_device.specs.declared.task.Task.{Task}
-use Rattle.hpb_device.specs.Advance.{Advances, IsSameStore}
+use Rattle.hpb_device.specs.Advance.{Advances, IsSameStore, ServesEntry}
 use Rattle.hpb_device.specs.Calls.{GoesOn, Leaves, StepsIn, at_rest}
 use Rattle.hpb_device.specs.Counts.{counted}
 use Rattle.hpb_device.specs.Entries.{EntriesStand}
 use Rattle.hpb_device.specs.Limits.{limits_of}
+use Rattle.hpb_device.specs.Lists.{lists_stepped}
 use Rattle.hpb_device.specs.Listed.{ListingStands}
 use Rattle.hpb_device.specs.Standing.{DeviceStands, DeviceStandsForeign, group_of}
 use Rattle.hpb_device.specs.Regions.{segment_told}
 use Rattle.hpb_device.specs.State.{DeviceState, IsDevice, IsSound}
-use Rattle.hpb_device.specs.Task.{IsQueue, IsWaiting}
+use Rattle.hpb_device.specs.Task.{IsQueue, IsWaiting, next_entry}
 use Rattle.hpb_device.proofs.Chips.{whole_after}
 use Rattle.hpb_device.proofs.Collecting.{IsMoved, erased_by_step, moved_entries, moved_listings, moved_stands}
 use Rattle.hpb_device.proofs.Entries.{stepped_entries}
@@ -46,14 +47,16 @@ serves_same old new same = record { geometry = same.geometry; luns = same.luns; 
 pub record IsWell (d : DeviceState) : Type 0 where
   pub units : d.store.units ≡ d.shape.units
   pub regions : length d.regions ≡ d.store.luns
+  pub lists : length d.lists ≡ 127 * d.store.luns
   pub queue : IsQueue d.store.luns (limits_of d.shape) d.held d.tasks
   pub unbegun : d.store.phase ≢ Ready → (d.held ≡ []) × AllByRecursion (IsWaiting d.store.luns (limits_of d.shape)) d.tasks
   pub standing : IsStanding d.store
 
-pub well_of : (d : DeviceState) (luns room : ℕ) → IsDevice d.store d.shape luns d.regions d.tasks d.held room → IsStanding d.store → IsWell d
+pub well_of : (d : DeviceState) (luns room : ℕ) → IsDevice d.store d.shape luns d.regions d.lists d.tasks d.held room → IsStanding d.store → IsWell d
 well_of d luns room is stands = record {
   units = is.units_served;
   regions = sym (length-map d.regions (λ (m : Machine). m.shape)) ∙ (ap length is.shapes ∙ (length-replicate luns d.shape ∙ sym is.luns_served));
+  lists = is.all_lists ∙ ap (λ (n : ℕ). 127 * n) (sym is.luns_served);
   queue = subst (λ (n : ℕ). IsQueue n (limits_of d.shape) d.held d.tasks) (sym is.luns_served) is.queue;
   unbegun = λ other. let none = is.unbegun other in (none.0, subst (λ (n : ℕ). AllByRecursion (IsWaiting n (limits_of d.shape)) d.tasks) (sym is.luns_served) none.1);
   standing = stands;
@@ -123,8 +126,10 @@ module _ (old new : DeviceState) (well : IsWell old) (shape : new.shape ≡ old.
   -- a step of the collector in the place of a program
   moved_of : old.store.phase ≡ Ready → (goes : GoesOn old new result out) (moved : Moved) (rest : Task)
       → Advances (limits_of old.shape) old.store new.store old.held new.held goes.task (Silent (Collected moved) rest) out
-      → Leaves (Silent (Collected moved) rest) (told_in goes) goes.others new.tasks new.held result out → new.counts ≡ counted old.counts (Silent (Collected moved) rest) → IsMoved old new moved
-  moved_of ready goes moved rest advances leaves counts = record {
+      → Leaves (Silent (Collected moved) rest) (told_in goes) goes.others new.tasks new.held result out → new.counts ≡ counted old.counts (Silent (Collected moved) rest) → new.lists ≡ old.lists
+      → IsMoved old new moved
+  moved_of ready goes moved rest advances leaves counts lists = record {
+    lists = lists;
     changes = advances.0.collects.changes;
     unit = advances.0.collects.unit;
     same = serves_same old.store new.store goes.same;
@@ -141,6 +146,7 @@ module _ (old new : DeviceState) (well : IsWell old) (shape : new.shape ≡ old.
         → Advances (limits_of old.shape) old.store new.store old.held new.held goes.task (Silent (Collected moved) rest) out
         → Leaves (Silent (Collected moved) rest) (told_in goes) goes.others new.tasks new.held result out → IsMoved old new moved
     moved_is moved rest is advances leaves = moved_of ready goes moved rest advances leaves (goes.counts ∙ ap (counted old.counts) is)
+        (goes.lists ∙ ap (lists_stepped old.lists goes.task old.held) is)
 
     abbrev own_turn : (progress : Progress) (first : First) (e : History) → goes.progress ≡ progress → IsOfTask progress → DeviceStands old first e → Turn
     own_turn progress first e is own at = turn_of ready goes first e (subst IsOfTask (sym is) own) at
@@ -157,19 +163,20 @@ module _ (old new : DeviceState) (well : IsWell old) (shape : new.shape ≡ old.
 
     goes_entries : (progress : Progress) (first : First) (e : History) → goes.progress ≡ progress
         → Advances (limits_of old.shape) old.store new.store old.held new.held goes.task progress out
+        → ServesEntry (next_entry old.lists goes.task) old.store goes.task progress → new.lists ≡ lists_stepped old.lists goes.task old.held progress
         → Leaves progress (told_in goes) goes.others new.tasks new.held result out → DeviceStands old first e → EntriesStand old e → EntriesStand new (told result out e)
-    goes_entries (Silent (Collected moved) rest) first e is advances leaves at stand =
+    goes_entries (Silent (Collected moved) rest) first e is advances serves lists leaves at stand =
         rw (leaves.1) (moved_entries old new moved out e (moved_is moved rest is advances leaves) stand)
-    goes_entries (Silent Missed rest) first e is advances leaves at stand =
-        stepped_entries (told_in goes) (own_turn (Silent Missed rest) first e is tt at) (Silent Missed rest) result out tt advances leaves stand
-    goes_entries (Silent Programmed rest) first e is advances leaves at stand =
-        stepped_entries (told_in goes) (own_turn (Silent Programmed rest) first e is tt at) (Silent Programmed rest) result out tt advances leaves stand
-    goes_entries (Sends what rest) first e is advances leaves at stand =
-        stepped_entries (told_in goes) (own_turn (Sends what rest) first e is tt at) (Sends what rest) result out tt advances leaves stand
-    goes_entries (Ended reply) first e is advances leaves at stand =
-        stepped_entries (told_in goes) (own_turn (Ended reply) first e is tt at) (Ended reply) result out tt advances leaves stand
-    goes_entries (Failed what reply) first e is advances leaves at stand =
-        stepped_entries (told_in goes) (own_turn (Failed what reply) first e is tt at) (Failed what reply) result out tt advances leaves stand
+    goes_entries (Silent Missed rest) first e is advances serves lists leaves at stand =
+        stepped_entries (told_in goes) (own_turn (Silent Missed rest) first e is tt at) (Silent Missed rest) result out tt advances serves lists leaves stand
+    goes_entries (Silent Programmed rest) first e is advances serves lists leaves at stand =
+        stepped_entries (told_in goes) (own_turn (Silent Programmed rest) first e is tt at) (Silent Programmed rest) result out tt advances serves lists leaves stand
+    goes_entries (Sends what rest) first e is advances serves lists leaves at stand =
+        stepped_entries (told_in goes) (own_turn (Sends what rest) first e is tt at) (Sends what rest) result out tt advances serves lists leaves stand
+    goes_entries (Ended reply) first e is advances serves lists leaves at stand =
+        stepped_entries (told_in goes) (own_turn (Ended reply) first e is tt at) (Ended reply) result out tt advances serves lists leaves stand
+    goes_entries (Failed what reply) first e is advances serves lists leaves at stand =
+        stepped_entries (told_in goes) (own_turn (Failed what reply) first e is tt at) (Failed what reply) result out tt advances serves lists leaves stand
 
     goes_listings : (had : Place → Bool) (pages : ℕ) (progress : Progress) (first : First) (e : History) → goes.progress ≡ progress
         → Advances (limits_of old.shape) old.store new.store old.held new.held goes.task progress out
@@ -200,7 +207,7 @@ module _ (old new : DeviceState) (well : IsWell old) (shape : new.shape ≡ old.
       → EntriesStand new (told result out e)
   steps_entries Scanning first e is makes at stand =
       scans_entries old new (unready_of old well (not_scanning old.store.phase is)) (scans_still old new result out shape makes) result out first e makes at stand
-  steps_entries Ready first e is goes at stand = goes_entries is goes goes.progress first e refl goes.advances goes.leaves at stand
+  steps_entries Ready first e is goes at stand = goes_entries is goes goes.progress first e refl goes.advances goes.entries goes.lists goes.leaves at stand
   steps_entries Foreign first e is refuses at stand = absurd (well.standing.foreign is at.sound)
 
   pub steps_listings : (had : Place → Bool) (pages : ℕ) (phase : Phase) (first : First) (e : History) → old.store.phase ≡ phase → StepsIn phase old new result out → DeviceStands old first e

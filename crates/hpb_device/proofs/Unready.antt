@@ -31,6 +31,7 @@ use Rattle.hpb_device.specs.Calls.{EndsUnread, Refuses, Scans}
 use Rattle.hpb_device.specs.Entries.{EntriesStand}
 use Rattle.hpb_device.specs.Keeps.{KeepsTasks, waiting_of}
 use Rattle.hpb_device.specs.Limits.{limits_of}
+use Rattle.hpb_device.specs.Lists.{lists_unread}
 use Rattle.hpb_device.specs.Listed.{ListingStands}
 use Rattle.hpb_device.specs.Reply.{reply_upiu}
 use Rattle.hpb_device.specs.Standing.{DeviceStands, DeviceStandsForeign, group_of, kept_of, programmed_of, sizes_of}
@@ -92,8 +93,8 @@ module _ (old new : DeviceState) (was : IsUnready old) (is : IsStill old new) wh
       (kept_same old new at.erases at.tasks (programmed_of old.tasks) is.same is.pages (sym (ap programmed_of same)))
       (keeps_same at.tasks same at.keeps) (is.erased ∙ at.counted) (sound_along old new is.same is.pages at.sound) at.stands
 
-  still_entries : (e : History) → new.tasks ≡ old.tasks → EntriesStand old e → EntriesStand new e
-  still_entries e same stand = entries_now old new e is.same is.shape (rw (is.pages) (stand.fresh)) (rw same (stand.tried))
+  still_entries : (e : History) → new.tasks ≡ old.tasks → new.lists ≡ old.lists → EntriesStand old e → EntriesStand new e
+  still_entries e same lists stand = entries_now old new e is.same is.shape (rw (is.pages) (stand.fresh)) (rw (lists, same) (stand.tried))
 
   still_listings : (had : Place → Bool) (pages : ℕ) (e : History) → new.tasks ≡ old.tasks → ListingStands had pages old e → ListingStands had pages new e
   still_listings had pages e same stand =
@@ -207,13 +208,13 @@ module _ (old new : DeviceState) (was : IsUnready old) (is : IsStill old new) wh
   failed_stands (task ∷ others) result out first e head ends at = rw (ends.1) (end_stands task others out first e head ends.0 ends.2 at)
 
   failed_entries : (tasks : List Task) (result : Stepped) (out : List ℕ) (first : First) (e : History) → old.tasks ≡ tasks → EndsUnread (Some ReadCall) tasks new.tasks result out
-      → DeviceStands old first e → EntriesStand old e → EntriesStand new (told result out e)
-  failed_entries [] result out first e head ends at stand =
-      rw (ends.1) (still_entries (e ▹ CallFailed ReadCall) (ends.0 ∙ sym head) (record {
+      → new.lists ≡ lists_unread old.lists tasks → DeviceStands old first e → EntriesStand old e → EntriesStand new (told result out e)
+  failed_entries [] result out first e head ends lists at stand =
+      rw (ends.1) (still_entries (e ▹ CallFailed ReadCall) (ends.0 ∙ sym head) lists (record {
         fresh = honoured_stays (sizes_of old) old.store.pages e (CallFailed ReadCall) (λ p. refl) stand.fresh;
-        tried = tried_stays (sizes_of old) e (CallFailed ReadCall) old.tasks (λ p. refl) stand.tried;
+        tried = tried_stays (sizes_of old) e (CallFailed ReadCall) old.lists old.tasks (λ p. refl) stand.tried;
       }))
-  failed_entries (task ∷ others) result out first e head ends at stand = rw (ends.1) (end_entries task others out first e head ends.0 ends.2 at stand)
+  failed_entries (task ∷ others) result out first e head ends lists at stand = rw (ends.1) (end_entries task others out first e head ends.0 ends.2 at stand)
 
   failed_listings : (had : Place → Bool) (pages : ℕ) (tasks : List Task) (result : Stepped) (out : List ℕ) (first : First) (e : History) → old.tasks ≡ tasks
       → EndsUnread (Some ReadCall) tasks new.tasks result out
@@ -255,8 +256,8 @@ module _ (old new : DeviceState) (was : IsUnready old) (is : IsStill old new) wh
   pub scans_entries : (result : Stepped) (out : List ℕ) (first : First) (e : History) → Scans old new result out → DeviceStands old first e → EntriesStand old e
       → EntriesStand new (told result out e)
   scans_entries result out first e scans at stand = elim scans.outcome [
-    | inl reads ↦ rw (reads.result_is) (still_entries e reads.tasks stand)
-    | inr misses ↦ failed_entries old.tasks result out first e refl misses.ends at stand
+    | inl reads ↦ rw (reads.result_is) (still_entries e reads.tasks reads.lists stand)
+    | inr misses ↦ failed_entries old.tasks result out first e refl misses.ends misses.lists at stand
   ]
 
   pub scans_listings : (had : Place → Bool) (pages : ℕ) (result : Stepped) (out : List ℕ) (first : First) (e : History) → Scans old new result out → DeviceStands old first e

@@ -1,5 +1,5 @@
 -- What one step makes of the first task.
-use Rattle.std.specs.Prelude.{◌≡◌, ◌≢◌, ◌⊎◌, ℕ, ◌+◌, ◌-◌, ◌*◌, ◌/◌, ◌^◌, ◌<◌, ⊤, Bool, true, false, is_some, nat_lt, if◌then◌else◌, List, [], ◌++◌, length, take, min, slice_range}
+use Rattle.std.specs.Prelude.{◌≡◌, ◌≢◌, ◌⊎◌, ℕ, ◌+◌, ◌-◌, ◌*◌, ◌/◌, ◌^◌, ◌<◌, ⊤, true, is_some, nat_lt, if◌then◌else◌, Option, Some, None, List, [], ◌++◌, length, take, min, slice_range, false}
 use Rattle.byteorder.specs.Endian.{big_bytes}
 use Rattle.hpb_outside.specs.Faults.{Rose}
 use Rattle.flash_pages.specs.declared.chip.ChipOp.{ChipOp}
@@ -13,6 +13,7 @@ use Rattle.flash_store.specs.declared.answers.StoreFault.TheVariants as fault
 use Rattle.flash_store.specs.Collecting.{call_of}
 use Rattle.flash_store.specs.Entries.{IsHonoured, entry_for, is_valid_page}
 use Rattle.flash_store.specs.Store.{Collects, IsWriteFault, StoreState, Writes, collecting}
+use Rattle.flat_unit.specs.Command.{is_write}
 use Rattle.flat_unit.specs.Entries.{entries_from}
 use Rattle.hpb_cdb.specs.declared.cdb.Cdb.{Cdb}
 use Rattle.hpb_cdb.specs.declared.cdb.Cdb.TheVariants.{Capacity, ReadBuffer}
@@ -33,8 +34,8 @@ use Rattle.hpb_device.specs.declared.advance.Transfer.{Transfer}
 use Rattle.hpb_device.specs.declared.advance.Transfer.TheVariants.{LookedUp, ByEntry, EntryList, UnitCapacity, Ready}
 use Rattle.hpb_device.specs.declared.advance.Internal.{Internal}
 use Rattle.hpb_device.specs.declared.advance.Internal.TheVariants.{Missed, Programmed, Collected}
-use Rattle.hpb_device.specs.Task.{bytes_taken, tries_entry}
-use Rattle.hpb_device.specs.Work.{IsReading, entry_in, first_in, listed_from, work_of}
+use Rattle.hpb_device.specs.Task.{AreProgrammed, bytes_taken, to_try}
+use Rattle.hpb_device.specs.Work.{IsReading, first_in, listed_from, work_of}
 
 -- the first block that a command names
 abbrev pub first_block : Cdb → ℕ
@@ -43,6 +44,10 @@ first_block command = first_in (work_of command)
 -- where block k of a command stands
 abbrev pub nth_place : Task → ℕ → Place
 nth_place task k = record { lun = task.lun; lba = first_block task.command + k }
+
+-- where the next block of a read stands
+abbrev pub next_place : Task → Place
+next_place task = nth_place task (task.sent / 4096)
 
 -- CHECK CONDITION, with what wasn't moved as residual
 abbrev pub check : Task → Cause → Reply
@@ -56,29 +61,15 @@ ReadsBlocks command = IsReading (work_of command)
 pub record SendsBlock (old : StoreState) (task rest : Task) (out : List ℕ) : Type 0 where
   pub reads : ReadsBlocks task.command
   pub more : task.sent < task.given
-  pub size : length (block_of old.pages (nth_place task (task.sent / 4096))) ≡ 4096
-  pub sent : out ≡ upiu_out (data_upiu DataIn task.lun task.tag task.sent (block_of old.pages (nth_place task (task.sent / 4096))))
+  pub size : length (block_of old.pages (next_place task)) ≡ 4096
+  pub sent : out ≡ upiu_out (data_upiu DataIn task.lun task.tag task.sent (block_of old.pages (next_place task)))
   pub task_is : rest ≡ record task { sent = task.sent + 4096; tried = false }
 
--- the block was looked up: it has no entry, or its entry was tried in vain
-pub record Shows (old : StoreState) (task rest : Task) (out : List ℕ) : Type 0 where
-  pub untried : tries_entry task ≡ false
-  pub sends : SendsBlock old task rest out
-
--- the entry that a command has for its first block
-abbrev pub entry_given : Cdb → ℕ
-entry_given command = entry_in (work_of command)
-
--- the block was read by its entry, which is the number of its current page
-pub record Finds (old : StoreState) (task rest : Task) (out : List ℕ) : Type 0 where
-  pub tries : tries_entry task ≡ true
-  pub honoured : IsHonoured old.pages (nth_place task 0) (entry_given task.command)
-  pub sends : SendsBlock old task rest out
-
--- the entry is not the number of the block's current page, and nothing was sent
-pub record Misses (old : StoreState) (task rest : Task) : Type 0 where
-  pub tries : tries_entry task ≡ true
-  pub refused : ¬ IsHonoured old.pages (nth_place task 0) (entry_given task.command)
+-- an entry of the next block of a read was tried in vain, and nothing was sent
+pub record Misses (task rest : Task) : Type 0 where
+  pub reads : ReadsBlocks task.command
+  pub more : task.sent < task.given
+  pub untried : task.tried ≡ false
   pub task_is : rest ≡ record task { tried = true }
 
 -- the first block of the subregion that READ BUFFER names
@@ -109,10 +100,10 @@ pub record Tells (units : ℕ) (task rest : Task) (out : List ℕ) : Type 0 wher
   pub sent : out ≡ upiu_out (data_upiu DataIn task.lun task.tag task.sent (capacity_of units))
   pub task_is : rest ≡ record task { sent = 8 }
 
--- the next data of a write were asked for
+-- the next data of a command were asked for
 pub record Asks (task rest : Task) (count : ℕ) (out : List ℕ) : Type 0 where
   pub all_come : task.come ≡ task.asked
-  pub all_programmed : 4096 * task.programmed ≡ task.come
+  pub all_programmed : AreProgrammed task
   pub more : task.asked < bytes_taken task.command
   pub counted : count ≡ min 32768 (bytes_taken task.command - task.asked)
   pub sent : out ≡ upiu_out (transfer_upiu ReadyToTransfer task.lun task.tag task.asked count)
@@ -120,6 +111,7 @@ pub record Asks (task rest : Task) (count : ℕ) (out : List ℕ) : Type 0 where
 
 -- the next block of a write, which has come, was programmed
 pub record Programs (old new : StoreState) (held : List ℕ) (task rest : Task) (start : ℕ) : Type 0 where
+  pub write : is_write task.command ≡ true
   pub more : 4096 * task.programmed < task.come
   pub numbered : next_seq old.pages < 2 ^ 62
   pub starts : start + task.come ≡ 4096 * task.programmed + length held
@@ -128,18 +120,20 @@ pub record Programs (old new : StoreState) (held : List ℕ) (task rest : Task) 
 
 -- the collector made a step in the place of a program
 pub record CollectsFirst (old new : StoreState) (task rest : Task) (moved : Moved) : Type 0 where
+  pub write : is_write task.command ≡ true
   pub more : 4096 * task.programmed < task.come
   pub collects : Collects old moved new
   pub task_is : rest ≡ task
 
--- all data of a command were moved, and those that came were programmed
+-- all data of a command were moved, and the blocks that came were programmed
 pub record IsComplete (task : Task) : Type 0 where
   pub sent : task.sent ≡ task.given
   pub come : task.come ≡ bytes_taken task.command
-  pub programmed : 4096 * task.programmed ≡ task.come
+  pub programmed : AreProgrammed task
 
 -- no sequence number is left for a block that has come
 pub record HasNoNumber (old : StoreState) (task : Task) : Type 0 where
+  pub write : is_write task.command ≡ true
   pub more : 4096 * task.programmed < task.come
   pub ended : next_seq old.pages ≡ 2 ^ 62
 
@@ -148,14 +142,6 @@ abbrev pub EndsWith : StoreState → Task → Reply → Type 0
 EndsWith old task reply =
     (IsComplete task × (reply ≡ Good task.lun task.tag (task.expected - task.sent - task.come)))
     ⊎ (HasNoNumber old task × (reply ≡ check task NoNumber))
-
--- whether a page is to be read for the next block: the one that an entry to be tried names, where that is valid, and else
--- the block's current one, where it has one
-abbrev pub reads_page : StoreState → Task → Bool
-reads_page old task =
-    if tries_entry task
-    then is_valid_page old.pages (entry_given task.command)
-    else is_some (current old.pages (nth_place task (task.sent / 4096)))
 
 -- the call of the chip that failed
 abbrev pub op_of : FailedCall → ChipOp
@@ -170,14 +156,13 @@ write_call old =
     if nat_lt old.geometry.pages (erased_count old.pages) then ProgramCall
     else call_of (collect_step old.geometry (collecting old)).did
 
--- a block is to be looked up that has a page, the entry that is to be tried names a valid page, or a block is to be programmed
--- and has a sequence number
+-- a block is to be read, or a block is to be programmed and has a sequence number
 abbrev pub IsDue : StoreState → Task → FailedCall → Type 0
-IsDue old task MappedRead =
-    ReadsBlocks task.command × (task.sent < task.given) × (tries_entry task ≡ false) × (reads_page old task ≡ true)
-IsDue old task EntryRead = (tries_entry task ≡ true) × (reads_page old task ≡ true)
+IsDue old task MappedRead = ReadsBlocks task.command × (task.sent < task.given)
+IsDue old task EntryRead = ReadsBlocks task.command × (task.sent < task.given)
 IsDue old task (WriteStep op) =
-    (4096 * task.programmed < task.come) × (next_seq old.pages ≢ 2 ^ 62) × (op ≡ write_call old)
+    (is_write task.command ≡ true) × (4096 * task.programmed < task.come) × (next_seq old.pages ≢ 2 ^ 62)
+    × (op ≡ write_call old)
 
 -- what a call that failed leaves: the collector holds the victim that it has chosen, and all else is as before
 abbrev pub FailsWith : (old new : StoreState) → FailedCall → Type 0
@@ -196,10 +181,16 @@ pub record Fails (old new : StoreState) (task : Task) (what : FailedCall) (reply
   pub left : FailsWith old new what
   pub answer : reply ≡ check task (failure_of what)
 
+-- where a command is over
+abbrev pub WhereOver : Progress → Type 0 → Type 0
+WhereOver (Ended reply) P = P
+WhereOver (Failed what reply) P = P
+WhereOver _ P = ⊤
+
 -- what was sent for a task that goes on
 abbrev pub Transfers : Limits → StoreState → Transfer → (task rest : Task) → (out : List ℕ) → Type 0
-Transfers lim old LookedUp task rest out = Shows old task rest out
-Transfers lim old ByEntry task rest out = Finds old task rest out
+Transfers lim old LookedUp task rest out = SendsBlock old task rest out
+Transfers lim old ByEntry task rest out = SendsBlock old task rest out
 Transfers lim old EntryList task rest out = (count : ℕ) × Lists lim old task rest count out
 Transfers lim old UnitCapacity task rest out = Tells old.units task rest out
 Transfers lim old Ready task rest out = (count : ℕ) × Asks task rest count out
@@ -213,7 +204,7 @@ held_after _ held = held
 -- What was done for a task that goes on, and for which nothing was sent. `start` is where the next block stands in the data that
 -- are held.
 abbrev pub Does : (old new : StoreState) → (held : List ℕ) → Internal → (task rest : Task) → Type 0
-Does old new held Missed task rest = Misses old task rest × (collecting new ≡ collecting old)
+Does old new held Missed task rest = Misses task rest × (collecting new ≡ collecting old)
 Does old new held Programmed task rest = (start : ℕ) × Programs old new held task rest start
 Does old new held (Collected moved) task rest = CollectsFirst old new task rest moved
 
@@ -226,6 +217,21 @@ Advances lim old new held held_now task (Silent what rest) out = Does old new he
 Advances lim old new held held_now task (Ended reply) out = EndsWith old task reply × (collecting new ≡ collecting old)
 Advances lim old new held held_now task (Failed what reply) out =
     Fails old new task what reply × (new.pages ≡ old.pages)
+
+-- How the entry of the next block served it. An entry that is to be tried and is the number of the block's current page
+-- gives the block, and any other is tried in vain; where none is to be tried the block is looked up. A call of the chip that
+-- failed was due: the look-up found a page, or the entry named a valid one.
+abbrev pub ServesEntry : Option ℕ → StoreState → Task → Progress → Type 0
+ServesEntry entry old task (Sends LookedUp rest) = to_try entry task ≡ None
+ServesEntry entry old task (Sends ByEntry rest) =
+    (x : ℕ) × (to_try entry task ≡ Some x) × IsHonoured old.pages (next_place task) x
+ServesEntry entry old task (Silent Missed rest) =
+    (x : ℕ) × (to_try entry task ≡ Some x) × ¬ IsHonoured old.pages (next_place task) x
+ServesEntry entry old task (Failed MappedRead reply) =
+    (to_try entry task ≡ None) × (is_some (current old.pages (next_place task)) ≡ true)
+ServesEntry entry old task (Failed EntryRead reply) =
+    (x : ℕ) × (to_try entry task ≡ Some x) × (is_valid_page old.pages x ≡ true)
+ServesEntry entry old task _ = ⊤
 
 -- the store serves the same blocks of the same chip
 pub record IsSameStore (old new : StoreState) : Type 0 where

@@ -1,5 +1,5 @@
 -- What the calls of a device leave.
-use Rattle.std.specs.Prelude.{⊤, ◌≡◌, ◌≢◌, ◌⊎◌, ℕ, ◌+◌, ◌*◌, ◌<◌, ◌≤◌, List, [], ◌∷◌, ◌++◌, length, map, Option, Some, None, Bool, false, true}
+use Rattle.std.specs.Prelude.{⊤, ◌≡◌, ◌≢◌, ◌⊎◌, ℕ, ◌+◌, ◌*◌, ◌<◌, ◌≤◌, List, [], ◌∷◌, ◌++◌, length, map, replicate, Option, Some, None, Bool, false, true}
 use Rattle.std.specs.Bool.{OnFalse}
 use Rattle.std.specs.List.{AllByRecursion}
 use Rattle.hpb_outside.specs.Faults.{Rose, raised}
@@ -28,15 +28,16 @@ use Rattle.hpb_device.specs.declared.advance.Progress.{Progress}
 use Rattle.hpb_device.specs.declared.advance.Progress.TheVariants.{Sends, Silent, Ended, Failed}
 use Rattle.hpb_device.specs.Accept.{IsBegun, IsNextPiece}
 use Rattle.hpb_device.specs.Counts.{counted, counted_moved, counted_step}
-use Rattle.hpb_device.specs.Advance.{Advances, IsSameStore, check, op_of}
+use Rattle.hpb_device.specs.Advance.{Advances, IsSameStore, ServesEntry, check, op_of}
 use Rattle.hpb_device.specs.Left.{steps_left, unscanned}
 use Rattle.hpb_device.specs.Limits.{limits_of}
+use Rattle.hpb_device.specs.Lists.{lists_stepped, lists_unread}
 use Rattle.hpb_device.specs.Regions.{regions_after, regions_moved, segment_told}
 use Rattle.hpb_device.specs.Reply.{reply_upiu, told_upiu}
 use Rattle.hpb_device.specs.Standing.{sizes_of}
 use Rattle.hpb_device.specs.State.{DeviceState, IsSound}
 use Rattle.hpb_device.specs.StoreCounts.{CountsStep}
-use Rattle.hpb_device.specs.Task.{WaitsForData, IsTaskOk, IsWaiting}
+use Rattle.hpb_device.specs.Task.{WaitsForData, IsTaskOk, IsWaiting, next_entry}
 
 -- a command was kept, last in order, where there was room; no more steps are left than it takes at most
 pub record Keeps (old new : DeviceState) (bytes : List ℕ) : Type 0 where
@@ -121,7 +122,9 @@ pub record GoesOn (old new : DeviceState) (result : Stepped) (out : List ℕ) : 
   pub leaves : Leaves progress (segment_told old.shape old.regions task progress) others new.tasks new.held result out
   pub regions : new.regions ≡ regions_after old.shape old.regions task progress
   pub same : IsSame old.store new.store
-  pub calls : CountsStep old.store new.store task progress
+  pub lists : new.lists ≡ lists_stepped old.lists task old.held progress
+  pub entries : ServesEntry (next_entry old.lists task) old.store task progress
+  pub calls : CountsStep old.store new.store (next_entry old.lists task) task progress
   pub counts : new.counts ≡ counted old.counts progress
 
 -- the first task, if there is one, is answered that the chip could not be read, and the step tells this failure
@@ -142,6 +145,7 @@ IsKnown Foreign store =
 
 -- the next page of the scan was read
 pub record ReadsPage (old new : DeviceState) (result : Stepped) : Type 0 where
+  pub lists : new.lists ≡ old.lists
   pub one_more : new.store.scanned ≡ old.store.scanned + 1
   pub known : IsKnown new.store.phase new.store
   pub faults : new.store.faults ≡ old.store.faults
@@ -150,6 +154,7 @@ pub record ReadsPage (old new : DeviceState) (result : Stepped) : Type 0 where
 
 -- the chip failed to read it, and it is read next
 pub record MissesPage (old new : DeviceState) (result : Stepped) (out : List ℕ) : Type 0 where
+  pub lists : new.lists ≡ lists_unread old.lists old.tasks
   pub scanned : new.store.scanned ≡ old.store.scanned
   pub phase : new.store.phase ≡ Scanning
   pub faults : Rose old.store.faults new.store.faults × (new.store.faults ≤ old.store.faults + 1)
@@ -171,6 +176,7 @@ pub record Scans (old new : DeviceState) (result : Stepped) (out : List ℕ) : T
 
 -- a step on a foreign chip: it makes no call of the chip
 pub record Refuses (old new : DeviceState) (result : Stepped) (out : List ℕ) : Type 0 where
+  pub lists : new.lists ≡ lists_unread old.lists old.tasks
   pub foreign : ¬ IsSound old
   pub scanned : unscanned old ≡ 0
   pub waiting : AllByRecursion (IsWaiting old.store.luns (limits_of old.shape)) old.tasks
@@ -215,6 +221,7 @@ pub record FailsToMove (old new : DeviceState) (op : ChipOp) (result : Stepped) 
 
 -- what a call of `collect` does that isn't idle: one call of the chip
 pub record CollectsOn (old new : DeviceState) (result : Stepped) : Type 0 where
+  pub lists : new.lists ≡ old.lists
   pub phase : old.store.phase ≡ Ready
   pub same : IsSame old.store new.store
   pub tasks : new.tasks ≡ old.tasks
@@ -226,10 +233,12 @@ pub record CollectsOn (old new : DeviceState) (result : Stepped) : Type 0 where
 abbrev pub Collects : (old new : DeviceState) → Stepped → Type 0
 Collects old new result = OnFalse result.idle (CollectsOn old new result)
 
--- the device after a reset: no task is kept, its chip is scanned anew, and each host is to be told that all regions are forgotten
+-- the device after a reset: no task and no list of entries is kept, its chip is scanned anew, and each host is to be told that
+-- all regions are forgotten
 abbrev pub reset_of : DeviceState → DeviceState
 reset_of device = record device {
   regions = map after_reset device.regions;
+  lists = replicate (length device.lists) None;
   store = record device.store { phase = Scanning; scanned = 0; victim = None; buffer = None };
   tasks = [];
   held = [];

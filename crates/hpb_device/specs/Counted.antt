@@ -1,8 +1,7 @@
 -- What a device has counted, and that it fits the history.
-use Rattle.std.specs.Prelude.{◌≡◌, ℕ, ◌+◌, ◌-◌, ◌*◌, ◌^◌, ◌≤◌, [], length, min, if◌then◌else◌}
+use Rattle.std.specs.Prelude.{◌≡◌, ℕ, ◌+◌, ◌-◌, ◌*◌, ◌^◌, ◌≤◌, length, min, if◌then◌else◌}
 use Rattle.flat_unit.specs.Counts.{Counts as Exact, blocks_by_entry, blocks_by_fresh, blocks_read, reads_failed, sends, stretches, works}
 use Rattle.flat_unit.specs.History.{History}
-use Rattle.flat_unit.specs.Lists.{lists_after}
 use Rattle.flat_unit.specs.Sizes.{Sizes}
 use Rattle.flat_unit.specs.Writes.{blocks_good, moves}
 use Rattle.hpb_device.specs.declared.counts.Counts.{Counts}
@@ -15,8 +14,7 @@ abbrev pub steps_scanned : Sizes → (scanned : ℕ) → History → ℕ
 steps_scanned s scanned e = s.pages * stretches s e + (if works s e then 0 else scanned)
 
 -- Counts that stop at 2^64 - 1 fit the events, where so many pages of the scan were read, and so many blocks of the
--- first task programmed: exact are the same counts as whole numbers, but for the erase blocks. No list of entries is
--- kept.
+-- first task programmed: exact are the same counts as whole numbers, but for the erase blocks.
 pub record AreCounted (s : Sizes) (scanned programmed : ℕ) (counts : Counts) (e : History) : Type 0 where
   pub exact : Exact
   pub steps_told : counts.steps ≡ min exact.steps (2 ^ 64 - 1)
@@ -29,7 +27,6 @@ pub record AreCounted (s : Sizes) (scanned programmed : ℕ) (counts : Counts) (
   pub none_else : exact.lookups + exact.entries ≤ blocks_read s e + reads_failed s e
   pub moved : exact.moved ≡ moves e
   pub steps : sends s e + blocks_good s e + programmed + steps_scanned s scanned e ≤ exact.steps
-  pub no_lists : lists_after s e ≡ []
 
 -- what a device has counted fits the history, and its chip has all its pages
 pub record CountsStand (device : DeviceState) (e : History) : Type 0 where

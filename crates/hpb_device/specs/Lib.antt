@@ -9,6 +9,7 @@ pub mod Left
 pub mod Limits
 pub mod Listed
 pub mod Regions
+pub mod Lists
 pub mod Reply
 pub mod Sizes
 pub mod Standing

@@ -8,7 +8,7 @@ use Rattle.flat_unit.specs.Sizes.{Sizes}
 abbrev pub OPCODES : List ℕ
 OPCODES = 0x00 ∷ 0x25 ∷ 0x28 ∷ 0x2A ∷ 0x35 ∷ 0xF8 ∷ 0xF9 ∷ 0xFA ∷ []
 
--- all commands but the prefetch are served; after a reset each page of the chip is looked at
+-- after a reset each page of the chip is looked at
 abbrev pub sizes : ℕ → Limits → Geometry → Sizes
 sizes luns lim geometry = record {
   luns = luns;
@@ -20,7 +20,6 @@ sizes luns lim geometry = record {
   per_region = lim.per_region;
   per_sub = lim.per_sub;
   opcodes = OPCODES;
-  prefetches = false;
   queries = false;
   manages = false;
 }

@@ -1,6 +1,7 @@
 -- What a device is, to those who call it, and what it keeps true of its fields.
-use Rattle.std.specs.Prelude.{⊤, ◌≡◌, ◌≢◌, ℕ, ◌*◌, ◌≤◌, List, [], ◌∷◌, length, map, replicate}
+use Rattle.std.specs.Prelude.{⊤, ◌≡◌, ◌≢◌, ℕ, ◌*◌, ◌≤◌, List, [], ◌∷◌, length, map, replicate, Option}
 use Rattle.std.specs.List.{AllByRecursion}
+use Rattle.entry_lists.specs.Lists.{EntryList}
 use Rattle.hpb_outside.specs.declared.errors.NewFault.{NewFault}
 use Rattle.hpb_outside.specs.declared.errors.NewFault.TheVariants as fault
 use Rattle.flash_pages.specs.declared.chip.Geometry.{Geometry}
@@ -17,20 +18,24 @@ use Rattle.hpb_device.specs.declared.task.Task.{Task}
 use Rattle.hpb_device.specs.Limits.{limits_of}
 use Rattle.hpb_device.specs.Task.{WaitsForData, IsQueue, IsWaiting}
 
--- its store, the shape of each logical unit, the regions of each, the tasks in order of acceptance, the data of the first one that
--- came last, and what is counted
+-- its store, the shape of each logical unit, the regions of each, the lists of entries that it keeps, the tasks in order of
+-- acceptance, the data of the first one that came last, and what is counted
 pub record DeviceState : Type 0 where
   pub store : StoreState
   pub shape : Shape
   pub regions : List Machine
+  pub lists : List (Option EntryList)
   pub tasks : List Task
   pub held : List ℕ
   pub counts : Counts
 
 -- what a device keeps true of its fields: while its chip isn't ready, nothing is done yet for any task
-pub record IsDevice (store : StoreState) (shape : Shape) (luns : ℕ) (regions : List Machine) (tasks : List Task) (held : List ℕ) (room : ℕ) : Type 0 where
+pub record IsDevice (store : StoreState) (shape : Shape) (luns : ℕ) (regions : List Machine) (lists : List (Option EntryList))
+    (tasks : List Task) (held : List ℕ) (room : ℕ)
+    : Type 0 where
   pub limits : IsWithinLimits shape
   pub shapes : map (λ (m : Machine). m.shape) regions ≡ replicate luns shape
+  pub all_lists : length lists ≡ 127 * luns
   pub luns_served : store.luns ≡ luns
   pub units_served : store.units ≡ shape.units
   pub served : CanServe store.geometry luns shape.units

@@ -1,8 +1,10 @@
 -- What one step adds to the counts of a store.
-use Rattle.std.specs.Prelude.{◌≡◌, ℕ, zero, suc, ◌+◌, ◌-◌, ◌/◌, ◌≤◌}
+use Rattle.std.specs.Prelude.{◌≡◌, ℕ, zero, suc, ◌+◌, ◌-◌, ◌/◌, ◌≤◌, Bool, false, is_some, Option, Some, None}
 use Rattle.hpb_outside.specs.Faults.{Rose, raised}
 use Rattle.flash_store.specs.declared.answers.Moved.{Moved}
 use Rattle.flash_store.specs.declared.answers.Moved.TheVariants.{Page}
+use Rattle.flash_pages.specs.Unit.{current}
+use Rattle.flash_store.specs.Entries.{is_valid_page}
 use Rattle.flash_store.specs.Store.{StoreState}
 use Rattle.flat_unit.specs.Counts.{one_if}
 use Rattle.hpb_device.specs.declared.advance.FailedCall.{FailedCall}
@@ -12,22 +14,28 @@ use Rattle.hpb_device.specs.declared.advance.Progress.TheVariants.{Sends, Silent
 use Rattle.hpb_device.specs.declared.advance.Transfer.TheVariants.{LookedUp, ByEntry, EntryList}
 use Rattle.hpb_device.specs.declared.advance.Internal.TheVariants.{Missed, Programmed, Collected}
 use Rattle.hpb_device.specs.declared.task.Task.{Task}
-use Rattle.hpb_device.specs.Advance.{reads_page}
+use Rattle.hpb_device.specs.Advance.{next_place}
 
 -- a count raised so many times
 abbrev pub raised_times : ℕ → ℕ → ℕ
 raised_times zero count = count
 raised_times (suc n) count = raised (raised_times n count)
 
--- how many calls of the chip a step makes
-abbrev pub calls_made : StoreState → Task → Progress → ℕ
-calls_made old task (Sends LookedUp rest) = one_if (reads_page old task)
-calls_made old task (Silent Missed rest) = one_if (reads_page old task)
-calls_made old task (Sends ByEntry rest) = 1
-calls_made old task (Silent Programmed rest) = 1
-calls_made old task (Silent (Collected moved) rest) = 1
-calls_made old task (Failed what reply) = 1
-calls_made old task _ = 0
+-- an entry names a valid page
+abbrev pub names_page : StoreState → Option ℕ → Bool
+names_page old (Some entry) = is_valid_page old.pages entry
+names_page old None = false
+
+-- how many calls of the chip a step makes, where the next block has this entry: a block that has no page is looked up without
+-- one, and so is an entry tried that names no valid page
+abbrev pub calls_made : StoreState → Option ℕ → Task → Progress → ℕ
+calls_made old entry task (Sends LookedUp rest) = one_if (is_some (current old.pages (next_place task)))
+calls_made old entry task (Silent Missed rest) = one_if (names_page old entry)
+calls_made old entry task (Sends ByEntry rest) = 1
+calls_made old entry task (Silent Programmed rest) = 1
+calls_made old entry task (Silent (Collected moved) rest) = 1
+calls_made old entry task (Failed what reply) = 1
+calls_made old entry task _ = 0
 
 -- a page that the collector programmed anew changes the map
 abbrev pub lookups_moved : Moved → ℕ
@@ -59,8 +67,8 @@ CountsFault before now (Failed what reply) = Rose before now × (now ≤ before 
 CountsFault before now _ = now ≡ before
 
 -- the counts of a store are those of what the step made
-pub record CountsStep (old new : StoreState) (task : Task) (progress : Progress) : Type 0 where
-  pub calls : new.calls ≡ raised_times (calls_made old task progress) old.calls
+pub record CountsStep (old new : StoreState) (entry : Option ℕ) (task : Task) (progress : Progress) : Type 0 where
+  pub calls : new.calls ≡ raised_times (calls_made old entry task progress) old.calls
   pub faults : CountsFault old.faults new.faults progress
   pub later : old.faults ≤ new.faults
   pub lookups : new.lookups ≡ raised_times (lookups_made task progress) old.lookups

@@ -5,13 +5,12 @@ ghost use Rattle.std.specs.Bool.{OnTrue};
 ghost use Rattle.flash_pages.specs.declared.chip.Geometry.{Geometry};
 ghost use Rattle.hpb_cdb.specs.Cdb.{IsCdb};
 ghost use Rattle.upiu_wire.specs.Upiu.{upiu_at};
-ghost use Rattle.flat_unit.specs.Command.{serves_command};
 ghost use Rattle.flat_unit.specs.Reply.{fault_rejection};
 ghost use Rattle.flat_unit.specs.Task.{Task as Waiting};
 ghost use Rattle.hpb_device.specs.Accept.{IsVerdict, IsBegun, IsNextPiece, IsCommandOf, IsJudged, IsDataVerdict, Follows, goes_on};
 ghost use Rattle.hpb_device.specs.Keeps.{KeepsTasks};
 ghost use Rattle.hpb_device.specs.Reply.{reply_upiu};
-ghost use Rattle.hpb_device.specs.Sizes.{OPCODES, sizes};
+ghost use Rattle.hpb_device.specs.Sizes.{sizes};
 ghost use Rattle.hpb_device.specs.Task.{IsQueue, IsServed, bytes_given};
 
 use crate::queue::head_of;
@@ -26,26 +25,6 @@ const KIND_NOT_SERVED: u8 = 7;
 const TAG_IN_USE: u8 = 8;
 
 const DATA_NOT_WAITED_FOR: u8 = 9;
-
-/// The opcodes that are served (SPC, SBC; those of HPB are this project's own).
-const TEST_UNIT_READY: u8 = 0x00;
-
-const READ_CAPACITY_10: u8 = 0x25;
-
-const READ_10: u8 = 0x28;
-
-const WRITE_10: u8 = 0x2A;
-
-const SYNCHRONIZE_CACHE_10: u8 = 0x35;
-
-const HPB_READ: u8 = 0xF8;
-
-const READ_BUFFER: u8 = 0xF9;
-
-const WRITE_BUFFER: u8 = 0xFA;
-
-/// The mode of WRITE BUFFER in which it prefetches entries. It isn't served.
-const PREFETCH: u8 = 0x02;
 
 /// What comes of the bytes of the host.
 pub enum Verdict<'a> {
@@ -164,38 +143,13 @@ fn is_in_use(tasks: &[Task], tag: u8) -> bool
     tasks.iter().any(|task| task.tag == tag)
 }
 
-/// Whether the command with this opcode is served.
-fn is_opcode(opcode: u8) -> bool
-    ensures { result ≡ list_any (λ served. served == opcode) OPCODES }
-{
-    matches!(
-        opcode,
-        TEST_UNIT_READY
-            | READ_CAPACITY_10
-            | READ_10
-            | WRITE_10
-            | SYNCHRONIZE_CACHE_10
-            | HPB_READ
-            | READ_BUFFER
-            | WRITE_BUFFER
-    )
-}
-
-/// Whether the command of these bytes is served.
-fn is_served(cdb: &[u8]) -> bool
-    requires { length cdb.now ≡ 16 }
-    ensures { (luns : ℕ) (geometry : Geometry) (limits : Limits) → result ≡ serves_command (sizes luns limits geometry) cdb.now }
-{
-    is_opcode(cdb[0]) && !(cdb[0] == WRITE_BUFFER && cdb[1] == PREFETCH)
-}
-
 /// The bytes that a command sends by DATA IN.
 fn given(command: &Cdb, limits: Limits) -> u32
     requires { IsServed limits command.now }
     ensures { result ≡ bytes_given limits command.now }
 {
     match command {
-        Cdb::Write { .. } => 0,
+        Cdb::Write { .. } | Cdb::Prefetch { .. } => 0,
         _ => hpb_cdb::needed(command, limits),
     }
 }
@@ -208,9 +162,6 @@ fn command_of(limits: Limits, cdb: &[u8]) -> Result<Cdb, Cause>
     ensures served { IfOk result (IsServed limits) }
     ensures command_of { (luns : ℕ) (geometry : Geometry) → IsCommandOf (sizes luns limits geometry) cdb.now result }
 {
-    if !is_served(cdb) {
-        return Err(Cause::UnknownOpcode);
-    }
     match hpb_cdb::parse(cdb, limits) {
         Ok(command) => Ok(command),
         Err(CdbFault::Opcode) => Err(Cause::UnknownOpcode),

@@ -1,21 +1,19 @@
 // One step of the first task.
-ghost use Rattle.std.specs.Prelude.{◌≡◌, ◌+◌, ◌-◌, ◌*◌, ◌^◌, ◌<◌, ◌≤◌, ℕ, true, false, List, [], length, vec_capacity};
-ghost use Rattle.hpb_device.specs.Task.{IsTaskOk, HoldsData, tries_entry};
+ghost use Rattle.std.specs.Prelude.{◌≡◌, ◌+◌, ◌-◌, ◌*◌, ◌^◌, ◌<◌, ◌≤◌, ℕ, false, List, [], length, vec_capacity, Option, Some, None};
+ghost use Rattle.hpb_device.specs.Task.{AreProgrammed, IsTaskOk, HoldsData, bytes_given, bytes_taken, to_try};
 ghost use Rattle.flash_store.specs.Store.{IsSame, IsStanding, StoreState, collecting};
-ghost use Rattle.hpb_device.specs.Advance.{ReadsBlocks, entries_of, entry_given, first_block, Advances, AllTasks, check, op_of};
+ghost use Rattle.hpb_device.specs.Advance.{ReadsBlocks, ServesEntry, entries_of, first_block, Advances, AllTasks, WhereOver, check, op_of};
 ghost use Rattle.hpb_device.specs.Left.{steps_of, wait_of};
 ghost use Rattle.hpb_device.specs.StoreCounts.{CountsStep, raised_times};
 
 use crate::reply::{Cause, Reply};
-use crate::task::{BURST_BYTES, CAPACITY_BYTES, ENTRY_BYTES, Task, Work, work_of};
+use crate::task::{BLOCK, BURST_BYTES, CAPACITY_BYTES, ENTRY_BYTES, Task, Work, work_of};
 use byteorder::{BigEndian, ByteOrder};
 use flash_pages::{BLOCK_BYTES, ChipOp, Flash};
 use flash_store::{Moved, Phase, Store, StoreFault, Wrote};
 use hpb_cdb::{Cdb, Limits};
 use hpb_outside::Failed;
 use upiu_wire::UpiuBuf;
-
-const BLOCK: u32 = BLOCK_BYTES as u32;
 
 const ENTRY: u32 = ENTRY_BYTES as u32;
 
@@ -106,11 +104,12 @@ pub fn check(task: Task, cause: Cause) -> Reply
     }
 }
 
-/// One step of a command that doesn't wait for data.
+/// One step of a command that doesn't wait for data, whose next block has this entry.
 pub fn advance<F: Flash>(
     store: &mut Store<F>,
     held: &mut Vec<u8>,
     task: Task,
+    entry: Option<u64>,
     limits: Limits,
     out: &mut UpiuBuf,
 ) -> Progress
@@ -128,36 +127,54 @@ pub fn advance<F: Flash>(
     ensures fewer { AllTasks (λ rest. steps_of limits store.old.geometry.pages (wait_of store.new) rest
         < steps_of limits store.old.geometry.pages (wait_of store.old) task) result }
     ensures same { IsSame store.old store.new }
-    ensures calls { CountsStep store.old store.new task result }
+    ensures over { WhereOver result (held.new.items ≡ held.old.items) }
+    ensures entries { ServesEntry entry store.old task result }
+    ensures calls { CountsStep store.old store.new entry task result }
     ensures room { vec_capacity held.old ≤ vec_capacity held.new }
 {
     match work_of(task.command) {
-        Work::ReadBlocks {
-            lba,
-            entry: None,
-            ..
-        } => show(store, task, lba, limits, out),
-        Work::ReadBlocks {
-            lba,
-            entry: Some(entry),
-            ..
-        } => {
-            if task.tries_entry() {
-                try_entry(store, task, lba, entry, limits, out)
-            } else {
-                show(store, task, lba, limits, out)
-            }
-        }
+        Work::ReadBlocks { lba, .. } => read(store, task, lba, entry, limits, out),
         Work::WriteBlocks { lba, n } => {
             if BLOCK * task.programmed < task.come {
                 program(store, held, task, lba, n, limits)
             } else {
-                ask(store, held, task, lba, n, limits, out)
+                ask(store, held, task, BLOCK * u32::from(n), limits, out)
             }
         }
+        Work::TakeList { bytes } => ask(store, held, task, u32::from(bytes), limits, out),
         Work::ListEntries { region, sub, .. } => list(store, held, task, region, sub, limits, out),
         Work::TellCapacity => tell(task, limits, out),
         Work::AnswerOnly => Progress::Ended(good(task)),
+    }
+}
+
+/// One step of a read: the next block is read by its entry, where that is to be tried, and else looked up.
+fn read<F: Flash>(
+    store: &mut Store<F>,
+    task: Task,
+    lba: u32,
+    entry: Option<u64>,
+    limits: Limits,
+    out: &mut UpiuBuf,
+) -> Progress
+    requires task { IsTaskOk store.old.luns limits task }
+    requires units { limits.units ≡ store.old.units }
+    requires reads { ReadsBlocks task.command }
+    requires first { first_block task.command ≡ lba }
+    requires goes { task.come ≡ task.asked }
+    requires ready { store.old.phase ≡ Phase.Ready }
+    ensures advances { (held : List ℕ) → Advances limits store.old store.new held held task result out.new }
+    ensures ok { AllTasks (IsTaskOk store.old.luns limits) result }
+    ensures held { (held : List ℕ) → HoldsData held task → AllTasks (HoldsData held) result }
+    ensures fewer { (pages wait : ℕ) → AllTasks (λ rest. steps_of limits pages wait rest < steps_of limits pages wait task) result }
+    ensures kept { collecting store.new ≡ collecting store.old }
+    ensures same { IsSame store.old store.new }
+    ensures entries { ServesEntry entry store.old task result }
+    ensures calls { CountsStep store.old store.new entry task result }
+{
+    match task.to_try(entry) {
+        Some(entry) => try_entry(store, task, lba, entry, limits, out),
+        None => show(store, task, lba, limits, out),
     }
 }
 
@@ -173,7 +190,6 @@ fn show<F: Flash>(
     requires units { limits.units ≡ store.old.units }
     requires reads { ReadsBlocks task.command }
     requires first { first_block task.command ≡ lba }
-    requires untried { tries_entry task ≡ false }
     requires goes { task.come ≡ task.asked }
     requires ready { store.old.phase ≡ Phase.Ready }
     ensures advances { (held : List ℕ) → Advances limits store.old store.new held held task result out.new }
@@ -182,7 +198,8 @@ fn show<F: Flash>(
     ensures fewer { (pages wait : ℕ) → AllTasks (λ rest. steps_of limits pages wait rest < steps_of limits pages wait task) result }
     ensures kept { collecting store.new ≡ collecting store.old }
     ensures same { IsSame store.old store.new }
-    ensures calls { CountsStep store.old store.new task result }
+    ensures entries { (entry : Option ℕ) → to_try entry task ≡ None → ServesEntry entry store.old task result }
+    ensures calls { (entry : Option ℕ) → CountsStep store.old store.new entry task result }
 {
     if task.sent == task.given {
         return Progress::Ended(good(task));
@@ -196,7 +213,7 @@ fn show<F: Flash>(
     }
 }
 
-/// Sends the first block of an HPB READ where its entry is the number of the block's current page.
+/// Sends the next block of a read where this entry is the number of the block's current page.
 fn try_entry<F: Flash>(
     store: &mut Store<F>,
     task: Task,
@@ -207,9 +224,10 @@ fn try_entry<F: Flash>(
 ) -> Progress
     requires task { IsTaskOk store.old.luns limits task }
     requires units { limits.units ≡ store.old.units }
+    requires reads { ReadsBlocks task.command }
     requires first { first_block task.command ≡ lba }
-    requires entry { entry_given task.command ≡ entry }
-    requires tries { tries_entry task ≡ true }
+    requires more { task.sent < task.given }
+    requires untried { task.tried ≡ false }
     requires ready { store.old.phase ≡ Phase.Ready }
     ensures advances { (held : List ℕ) → Advances limits store.old store.new held held task result out.new }
     ensures ok { AllTasks (IsTaskOk store.old.luns limits) result }
@@ -217,9 +235,10 @@ fn try_entry<F: Flash>(
     ensures fewer { (pages wait : ℕ) → AllTasks (λ rest. steps_of limits pages wait rest < steps_of limits pages wait task) result }
     ensures kept { collecting store.new ≡ collecting store.old }
     ensures same { IsSame store.old store.new }
-    ensures calls { CountsStep store.old store.new task result }
+    ensures entries { to_try (Some entry) task ≡ Some entry → ServesEntry (Some entry) store.old task result }
+    ensures calls { CountsStep store.old store.new (Some entry) task result }
 {
-    match store.read_by_entry(task.lun, lba, entry) {
+    match store.read_by_entry(task.lun, lba + task.sent / BLOCK, entry) {
         Ok(Some(block)) => {
             out.put_data_in(task.lun, task.tag, task.sent, block);
             Progress::Sends(Transfer::ByEntry, task.with_block())
@@ -258,7 +277,9 @@ fn list<F: Flash>(
     ensures fewer { (pages wait : ℕ) → AllTasks (λ rest. steps_of limits pages wait rest < steps_of limits pages wait task) result }
     ensures kept { collecting store.new ≡ collecting store.old }
     ensures same { IsSame store.old store.new }
-    ensures calls { CountsStep store.old store.new task result }
+    ensures over { WhereOver result (held.new.items ≡ held.old.items) }
+    ensures entries { (entry : Option ℕ) → ServesEntry entry store.old task result }
+    ensures calls { (entry : Option ℕ) → CountsStep store.old store.new entry task result }
     ensures room { vec_capacity held.old ≤ vec_capacity held.new }
 {
     if task.sent == task.given {
@@ -332,7 +353,8 @@ fn program<F: Flash>(
     ensures fewer { AllTasks (λ rest. steps_of limits store.old.geometry.pages (wait_of store.new) rest
         < steps_of limits store.old.geometry.pages (wait_of store.old) task) result }
     ensures same { IsSame store.old store.new }
-    ensures calls { CountsStep store.old store.new task result }
+    ensures entries { (entry : Option ℕ) → ServesEntry entry store.old task result }
+    ensures calls { (entry : Option ℕ) → CountsStep store.old store.new entry task result }
 {
     let start = BLOCK_BYTES * task.programmed as usize + held.len() - task.come as usize;
     let block = &held[start..start + BLOCK_BYTES];
@@ -352,28 +374,30 @@ fn program<F: Flash>(
     }
 }
 
-/// Asks for the next data of a WRITE(10), or answers it.
+/// Asks for the next data of a command that takes so many bytes, or answers it.
 fn ask<F: Flash>(
     store: &Store<F>,
     held: &mut Vec<u8>,
     task: Task,
-    lba: u32,
-    n: u16,
+    bytes: u32,
     limits: Limits,
     out: &mut UpiuBuf,
 ) -> Progress
     requires task { IsTaskOk store.now.luns limits task }
-    requires command { task.command ≡ Cdb.Write lba n }
+    requires bytes { bytes_taken task.command ≡ bytes }
+    requires gives { bytes_given limits task.command ≡ 0 }
     requires come { task.come ≡ task.asked }
-    requires programmed { 4096 * task.programmed ≡ task.come }
+    requires programmed { AreProgrammed task }
     ensures advances { Advances limits store.now store.now held.old.items held.new.items task result out.new }
     ensures ok { AllTasks (IsTaskOk store.now.luns limits) result }
     ensures fewer { (pages wait : ℕ) → AllTasks (λ rest. steps_of limits pages wait rest < steps_of limits pages wait task) result }
     ensures held { AllTasks (HoldsData held.new.items) result }
-    ensures calls { CountsStep store.now store.now task result }
+    ensures over { WhereOver result (held.new.items ≡ held.old.items) }
+    ensures entries { (entry : Option ℕ) → ServesEntry entry store.now task result }
+    ensures calls { (entry : Option ℕ) → CountsStep store.now store.now entry task result }
     ensures room { vec_capacity held.old ≤ vec_capacity held.new }
 {
-    let left = BLOCK * u32::from(n) - task.asked;
+    let left = bytes - task.asked;
     if left == 0 {
         return Progress::Ended(good(task));
     }
@@ -400,7 +424,8 @@ fn tell(task: Task, limits: Limits, out: &mut UpiuBuf) -> Progress
     ensures ok { (luns : ℕ) → IsTaskOk luns limits task → AllTasks (IsTaskOk luns limits) result }
     ensures held { (held : List ℕ) → HoldsData held task → AllTasks (HoldsData held) result }
     ensures fewer { (pages wait : ℕ) → AllTasks (λ rest. steps_of limits pages wait rest < steps_of limits pages wait task) result }
-    ensures calls { (store : StoreState) → CountsStep store store task result }
+    ensures entries { (store : StoreState) (entry : Option ℕ) → ServesEntry entry store task result }
+    ensures calls { (store : StoreState) (entry : Option ℕ) → CountsStep store store entry task result }
 {
     if task.sent == CAPACITY_BYTES as u32 {
         return Progress::Ended(good(task));

@@ -28,11 +28,13 @@ ghost use Rattle.std.specs.Bool.{OnFalse};
 use crate::accept::{Verdict, judge};
 use crate::advance::{Internal, Progress, advance, check};
 use crate::counts::Counts;
+use crate::lists::{next_entry, step_list, unread_list};
 use crate::queue::{end_head, head_of, keep_head};
 use crate::regions::{new_regions, reset_all, take_moved, take_progress};
 use crate::reply::{Cause, Reply, put_reply, put_told};
 use crate::task::{BURST_BYTES, TASKS, Task};
 use arrayvec::ArrayVec;
+use entry_lists::EntryLists;
 use flash_pages::{ChipOp, Flash};
 use flash_store::{Moved, Phase, Store, can_serve};
 use hpb_cdb::Limits;
@@ -107,6 +109,7 @@ pub struct Device<F: Flash> {
     shape: Shape,
     luns: u8,
     regions: Vec<Regions>,
+    lists: EntryLists,
     tasks: ArrayVec<Task, TASKS>,
     held: Vec<u8>,
     counts: Counts,
@@ -118,9 +121,9 @@ impl<F: Flash> Model for Device<F> {
 
     ghost Value = { DeviceState };
 
-    ghost view = { λ d. record { store = d.store; shape = d.shape; regions = d.regions.items; tasks = d.tasks.items; held = d.held.items; counts = d.counts } };
+    ghost view = { λ d. record { store = d.store; shape = d.shape; regions = d.regions.items; lists = d.lists; tasks = d.tasks.items; held = d.held.items; counts = d.counts } };
 
-    ghost invariant = { λ d. IsDevice d.store d.shape d.luns d.regions.items d.tasks.items d.held.items (vec_capacity d.held) };
+    ghost invariant = { λ d. IsDevice d.store d.shape d.luns d.regions.items d.lists d.tasks.items d.held.items (vec_capacity d.held) };
 }
 
 impl<F: Flash> Device<F> {
@@ -129,6 +132,7 @@ impl<F: Flash> Device<F> {
     ghost use Rattle.hpb_device.specs.Counted.{CountsStand};
     ghost use Rattle.hpb_device.specs.Entries.{EntriesStand};
     ghost use Rattle.hpb_device.specs.Keeps.{KeepsTasks};
+    ghost use Rattle.hpb_device.specs.Lists.{ListsStand};
     ghost use Rattle.hpb_device.specs.Listed.{ListingStands};
     ghost use Rattle.hpb_device.specs.Regions.{HintsStand, KeepsHistory};
     ghost use Rattle.hpb_device.specs.Standing.{DeviceStands, DeviceStandsForeign, sizes_of, answer_events, first_of, group_of};
@@ -145,6 +149,7 @@ impl<F: Flash> Device<F> {
 
         ensures tasks { IfOk result (λ device. device.tasks ≡ []) }
         ensures regions { IfOk result (λ device. device.regions ≡ replicate luns (start shape)) }
+        ensures lists { IfOk result (λ device. device.lists ≡ replicate (127 * luns) None) }
         ensures counts { IfOk result (λ device. device.counts ≡ no_counts) }
         ensures shape { IfOk result (λ device. device.shape ≡ shape) }
         ensures luns { IfOk result (λ device. device.store.luns ≡ luns) }
@@ -161,6 +166,7 @@ impl<F: Flash> Device<F> {
         ensures foreign { IfOk result (λ device. ¬ IsSound device
             → DeviceStandsForeign device (F.pages flash) (first_of device) []) }
         ensures hints { IfOk result (λ device. HintsStand device []) }
+        ensures fetched { IfOk result (λ device. ListsStand device []) }
         ensures counted { IfOk result (λ device. CountsStand device []) }
         ensures given_back { IfErr result (λ refused. refused.0 ≡ flash) }
     {
@@ -173,12 +179,16 @@ impl<F: Flash> Device<F> {
         let Ok(regions) = new_regions(alloc, shape, luns) else {
             return Err((flash, NewFault::Memory));
         };
+        let Ok(lists) = EntryLists::new(alloc, luns) else {
+            return Err((flash, NewFault::Memory));
+        };
         let store = Store::new(alloc, flash, luns, shape.units)?;
         Ok(Device {
             store,
             shape,
             luns,
             regions,
+            lists,
             tasks: ArrayVec::new(),
             held,
             counts: Counts::ZERO,
@@ -211,11 +221,14 @@ impl<F: Flash> Device<F> {
             → ListingStands had pages self.new (followed_by (e ▹ Host bytes.now) (answer_events result out.new)) }
         ensures hints { (e : History) → KeepsHistory self.old e → HintsStand self.old e
             → HintsStand self.new (followed_by (e ▹ Host bytes.now) (answer_events result out.new)) }
+        ensures fetched { (e : History) → KeepsHistory self.old e → ListsStand self.old e
+            → ListsStand self.new (followed_by (e ▹ Host bytes.now) (answer_events result out.new)) }
         ensures counted { (first : First) (e : History) → DeviceStands self.old first e → CountsStand self.old e
             → CountsStand self.new (followed_by (e ▹ Host bytes.now) (answer_events result out.new)) }
         ensures store { self.new.store ≡ self.old.store }
         ensures shape { self.new.shape ≡ self.old.shape }
         ensures regions { self.new.regions ≡ self.old.regions }
+        ensures lists { self.new.lists ≡ self.old.lists }
         ensures counts { self.new.counts ≡ self.old.counts }
     {
         let limits = limits_of(self.shape);
@@ -247,6 +260,7 @@ impl<F: Flash> Device<F> {
         ensures store { self.new.store ≡ self.old.store }
         ensures shape { self.new.shape ≡ self.old.shape }
         ensures regions { self.new.regions ≡ self.old.regions }
+        ensures lists { self.new.lists ≡ self.old.lists }
         ensures counts { self.new.counts ≡ self.old.counts }
     {
         if let Some(task) = head_of(&self.tasks) {
@@ -271,8 +285,10 @@ impl<F: Flash> Device<F> {
             → ListingStands had pages self.new (followed_by e (events_of (group_of result out.new))) }
         ensures hints { (e : History) → KeepsHistory self.old e → HintsStand self.old e
             → HintsStand self.new (followed_by e (events_of (group_of result out.new))) }
+        ensures fetched { (e : History) → KeepsHistory self.old e → ListsStand self.old e
+            → ListsStand self.new (followed_by e (events_of (group_of result out.new))) }
         ensures counted { (first : First) (e : History) → DeviceStands self.old first e → EntriesStand self.old e
-            → CountsStand self.old e → CountsStand self.new (followed_by e (events_of (group_of result out.new))) }
+            → ListsStand self.old e → CountsStand self.old e → CountsStand self.new (followed_by e (events_of (group_of result out.new))) }
         ensures idle { IsTrue result.idle ↔ IsIdle self.old }
         ensures nothing { IsTrue result.idle → result ≡ at_rest }
         ensures unchanged { IsTrue result.idle → self.new ≡ self.old }
@@ -299,7 +315,10 @@ impl<F: Flash> Device<F> {
         self.counts = self.counts.stepped();
         match self.store.scan_step() {
             Ok(_) => Stepped::new(None, None, false),
-            Err(Failed) => end_unread(&mut self.tasks, &mut self.held, Some(ChipOp::Read), out),
+            Err(Failed) => {
+                unread_list(&mut self.lists, &self.tasks);
+                end_unread(&mut self.tasks, &mut self.held, Some(ChipOp::Read), out)
+            }
         }
     }
 
@@ -321,7 +340,9 @@ impl<F: Flash> Device<F> {
             return Stepped::idle();
         }
         let limits = limits_of(self.shape);
-        let progress = advance(&mut self.store, &mut self.held, task, limits, out);
+        let entry = next_entry(&self.lists, task);
+        let progress = advance(&mut self.store, &mut self.held, task, entry, limits, out);
+        step_list(&mut self.lists, task, progress, &self.held);
         let counts = self.counts.after(progress);
         self.counts = counts;
         let hint = take_progress(&mut self.regions, task, progress);
@@ -343,6 +364,7 @@ impl<F: Flash> Device<F> {
             return Stepped::idle();
         }
         self.counts = self.counts.stepped();
+        unread_list(&mut self.lists, &self.tasks);
         end_unread(&mut self.tasks, &mut self.held, None, out)
     }
 
@@ -361,6 +383,8 @@ impl<F: Flash> Device<F> {
             → ListingStands had pages self.new (followed_by e (events_of (group_of result []))) }
         ensures hints { (e : History) → HintsStand self.old e
             → HintsStand self.new (followed_by e (events_of (group_of result []))) }
+        ensures fetched { (e : History) → ListsStand self.old e
+            → ListsStand self.new (followed_by e (events_of (group_of result []))) }
         ensures counted { (e : History) → CountsStand self.old e
             → CountsStand self.new (followed_by e (events_of (group_of result []))) }
         ensures nothing { IsTrue result.idle → result ≡ at_rest }
@@ -399,7 +423,7 @@ impl<F: Flash> Device<F> {
         }
     }
 
-    /// Drops all tasks, and begins to scan the chip anew. The chip and the counts stay.
+    /// Drops all tasks and all lists of entries, and begins to scan the chip anew. The chip and the counts stay.
     pub fn reset(&mut self)
         ensures reset { self.new ≡ reset_of self.old }
         ensures stands { (first : First) (e : History) → DeviceStands self.old first e
@@ -410,10 +434,12 @@ impl<F: Flash> Device<F> {
         ensures listings { (had : Place → Bool) (pages : ℕ) (e : History) → ListingStands had pages self.old e
             → ListingStands had pages self.new (e ▹ Reset) }
         ensures hints { (e : History) → HintsStand self.old e → HintsStand self.new (e ▹ Reset) }
+        ensures fetched { (e : History) → ListsStand self.old e → ListsStand self.new (e ▹ Reset) }
         ensures counted { (e : History) → CountsStand self.old e → CountsStand self.new (e ▹ Reset) }
         ensures left { steps_left self.new ≡ self.old.store.geometry.blocks * self.old.store.geometry.pages }
     {
         reset_all(&mut self.regions);
+        self.lists.clear();
         self.tasks.clear();
         self.held.clear();
         self.store.reset();

@@ -5,6 +5,7 @@ mod accept;
 mod advance;
 mod counts;
 mod device;
+mod lists;
 mod queue;
 mod regions;
 mod reply;

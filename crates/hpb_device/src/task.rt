@@ -1,8 +1,12 @@
 ghost use Rattle.std.specs.Prelude.{◌≡◌, ◌+◌, ◌^◌, ◌<◌, ◌↔◌, IsTrue, false};
-ghost use Rattle.hpb_device.specs.Task.{WaitsForData, tries_entry};
+ghost use Rattle.hpb_device.specs.Task.{WaitsForData, to_try};
 ghost use Rattle.hpb_device.specs.Work.{work_of};
 
+use flash_pages::BLOCK_BYTES;
 use hpb_cdb::Cdb;
+
+/// The bytes of a block.
+pub const BLOCK: u32 = BLOCK_BYTES as u32;
 
 /// The most bytes that are asked for at once.
 pub const BURST_BYTES: usize = 32_768;
@@ -19,45 +23,32 @@ pub const ENTRY_BYTES: usize = 8;
 /// What the steps of a command do.
 #[derive(Clone, Copy, Debug, PartialEq, Eq)]
 pub enum Work {
-    /// Blocks are read, the first one by an entry where the command has one.
-    ReadBlocks {
-        lba: u32,
-        n: u16,
-        entry: Option<u64>,
-    },
+    /// Blocks are read.
+    ReadBlocks { lba: u32, n: u16 },
     /// Blocks are written.
-    WriteBlocks {
-        lba: u32,
-        n: u16,
-    },
+    WriteBlocks { lba: u32, n: u16 },
+    /// A list of entries is taken.
+    TakeList { bytes: u16 },
     /// The entries of a subregion are listed.
-    ListEntries {
-        region: u16,
-        sub: u16,
-        len: u32,
-    },
+    ListEntries { region: u16, sub: u16, len: u32 },
     /// The capacity of the unit is told.
     TellCapacity,
     /// The command is answered at once.
     AnswerOnly,
 }
 
-/// The work of a command. HPB READ reads as READ(10) does, with an entry for its first block.
+/// The work of a command. HPB READ reads as READ(10) does.
 pub fn work_of(command: Cdb) -> Work
     ensures { result ≡ work_of command }
 {
     match command {
-        Cdb::Read { lba, n } => Work::ReadBlocks {
-            lba,
-            n,
-            entry: None,
-        },
-        Cdb::HpbRead { lba, entry, n, .. } => Work::ReadBlocks {
+        Cdb::Read { lba, n } => Work::ReadBlocks { lba, n },
+        Cdb::HpbRead { lba, n, .. } => Work::ReadBlocks {
             lba,
             n: u16::from(n),
-            entry: Some(entry),
         },
         Cdb::Write { lba, n } => Work::WriteBlocks { lba, n },
+        Cdb::Prefetch { len, .. } => Work::TakeList { bytes: len },
         Cdb::ReadBuffer { region, sub, len } => Work::ListEntries { region, sub, len },
         Cdb::Capacity => Work::TellCapacity,
         _ => Work::AnswerOnly,
@@ -130,17 +121,14 @@ impl Task {
         self.come < self.asked
     }
 
-    /// Whether the next block has an entry that wasn't tried yet: that of the CDB is for the first block of an HPB READ.
-    pub fn tries_entry(&self) -> bool
-        ensures { result ≡ tries_entry self.now }
+    /// The entry of the next block, where it is to be tried: a block is left, and it wasn't tried yet.
+    pub fn to_try(&self, entry: Option<u64>) -> Option<u64>
+        ensures { result ≡ to_try entry self.now }
     {
-        match work_of(self.command) {
-            Work::ReadBlocks {
-                n,
-                entry: Some(_),
-                ..
-            } => self.sent == 0 && n != 0 && !self.tried,
-            _ => false,
+        if self.sent < self.given && !self.tried {
+            entry
+        } else {
+            None
         }
     }
 

@@ -26,6 +26,7 @@ use Rattle.hpb_device.specs.Advance.{IsSameStore}
 use Rattle.hpb_device.specs.Calls.{CollectsOn, uncollected_in}
 use Rattle.hpb_device.specs.Counted.{CountsStand}
 use Rattle.hpb_device.specs.Entries.{EntriesStand}
+use Rattle.hpb_device.specs.Lists.{ListsStand}
 use Rattle.hpb_device.specs.Regions.{HintsStand}
 use Rattle.hpb_device.specs.Left.{KeepsNoWrite, steps_left}
 use Rattle.hpb_device.specs.Limits.{limits_of}
@@ -50,6 +51,7 @@ pub record Calling (old new : DeviceState) (r : Stepped) : Type 0 where
   pub listings : (had : Place → Bool) (pages : ℕ) (e : History) → ListingStands had pages old e → ListingStands had pages new (followed_by e (events_of (group_of r [])))
   pub counted : (e : History) → CountsStand old e → CountsStand new (followed_by e (events_of (group_of r [])))
   pub hints : (e : History) → HintsStand old e → HintsStand new (followed_by e (events_of (group_of r [])))
+  pub fetched : (e : History) → ListsStand old e → ListsStand new (followed_by e (events_of (group_of r [])))
   pub sound : old.store.phase ≡ Ready → IsSound old
   pub calls : CollectsOn old new r
   pub fewer : r.failed ≡ None → uncollected_in new < uncollected_in old
@@ -151,6 +153,7 @@ call_standing start old new q r count at call runs counts =
       some_page = at.some_page;
       shape = call.shape ∙ at.shape;
       hints = call.hints q.events at.hints;
+      fetched = call.fetched q.events at.fetched;
       sizes = (λ i. sizes (call.calls.same.luns i) (limits_of (call.shape i)) (call.calls.same.geometry i)) ∙ at.sizes;
       same = same_since start.store old.store new.store at.same store;
       faults = failures_are-followed_by start.store.faults old.store.faults new.store.faults q.events (events_by r) at.faults (collect_fails old new r call.calls);
@@ -306,6 +309,7 @@ idle_standing start now q count rests at = record {
   faults = at.faults;
   plain = at.plain;
   hints = at.hints;
+  fetched = at.fetched;
   lacking = at.lacking;
   quiet = at.quiet;
   steps = at.steps;
@@ -340,12 +344,13 @@ pub calling_of : (old new : DeviceState) (r : Stepped)
     → ((had : Place → Bool) (pages : ℕ) (e : History) → ListingStands had pages old e → ListingStands had pages new (followed_by e (events_of (group_of r []))))
     → ((e : History) → CountsStand old e → CountsStand new (followed_by e (events_of (group_of r []))))
     → ((e : History) → HintsStand old e → HintsStand new (followed_by e (events_of (group_of r []))))
+    → ((e : History) → ListsStand old e → ListsStand new (followed_by e (events_of (group_of r []))))
     → (old.store.phase ≡ Ready → IsSound old)
     → (IsTrue r.idle → ⊥) → OnFalse r.idle (CollectsOn old new r) → OnFalse r.idle (r.failed ≡ None → uncollected_in new < uncollected_in old)
     → (old.store.phase ≡ Ready → uncollected_in old ≤ 2 * old.store.geometry.pages * (old.store.geometry.blocks * old.store.geometry.pages))
     → (old.store.phase ≡ Ready → r.failed ≡ None → uncollected_in new ≡ 0 → HasNoMore new.store.geometry new.store.pages)
     → (KeepsNoWrite old.tasks → steps_left new ≡ steps_left old) → new.shape ≡ old.shape → ((place : ℕ × ℕ) → r.moved ≡ Some place → (place.0 < 2 ^ 8) × (place.1 < 2 ^ 32)) → Calling old new r
-calling_of old new r stands foreign entries listings counted hints sound busy collects fewer most over left shape small =
+calling_of old new r stands foreign entries listings counted hints fetched sound busy collects fewer most over left shape small =
     let calls = on_false r.idle busy collects in
     record {
       stands = stands;
@@ -354,6 +359,7 @@ calling_of old new r stands foreign entries listings counted hints sound busy co
       listings = listings;
       counted = counted;
       hints = hints;
+      fetched = fetched;
       sound = sound;
       calls = calls;
       fewer = on_false r.idle busy fewer;

@@ -107,6 +107,7 @@ rest_standing start now m rests looked at =
       faults = at.faults;
       plain = at.plain;
       hints = at.hints;
+      fetched = at.fetched;
       lacking = at.lacking;
       quiet = omega (arith, at.quiet, looked);
       steps = omega (arith, at.steps);

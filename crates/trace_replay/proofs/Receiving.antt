@@ -25,6 +25,7 @@ use Rattle.hpb_device.specs.declared.device.Sent.TheVariants.{Nothing, Upiu as U
 use Rattle.hpb_device.specs.Calls.{Receives, reset_of}
 use Rattle.hpb_device.specs.Counted.{CountsStand}
 use Rattle.hpb_device.specs.Entries.{EntriesStand}
+use Rattle.hpb_device.specs.Lists.{ListsStand}
 use Rattle.hpb_device.specs.Regions.{HintsStand, KeepsHistory}
 use Rattle.trace_replay.proofs.Counts.{answered_alone, received_alone, reset_alone}
 use Rattle.hpb_device.specs.Keeps.{KeepsTasks}
@@ -63,6 +64,7 @@ pub record Received (old new : DeviceState) (bytes out : List ℕ) (sent : Sent)
       → ListingStands had pages new (followed_by (e ▹ Host bytes) (answer_events sent out))
   pub counted : (first : First) (e : History) → DeviceStands old first e → CountsStand old e → CountsStand new (followed_by (e ▹ Host bytes) (answer_events sent out))
   pub hints : (e : History) → KeepsHistory old e → HintsStand old e → HintsStand new (followed_by (e ▹ Host bytes) (answer_events sent out))
+  pub fetched : (e : History) → KeepsHistory old e → ListsStand old e → ListsStand new (followed_by (e ▹ Host bytes) (answer_events sent out))
   pub bytes_are : IsBytes bytes
   pub few : length bytes ≤ 65568
   pub room : sent ≡ UpiuSent → IsBytes out × (length out ≤ 4128)
@@ -130,6 +132,7 @@ told_leads start old new before w gathered gathered_now bytes out sent p at got 
         sizes = same_sizes old new got.store got.shape ∙ at.sizes;
         shape = got.shape ∙ at.shape;
         hints = rw events (got.hints p.events (keeps_history start old p at) at.hints);
+        fetched = rw events (got.fetched p.events (keeps_history start old p at) at.fetched);
         same = rw got.store at.same;
         faults = rw (events, got.store) (record {
           least = rw (answers_fail_nothing (p.events ▹ Host bytes) sent out) at.faults.least;
@@ -178,6 +181,7 @@ pub record WasReset (old new : DeviceState) : Type 0 where
   pub listings : (had : Place → Bool) (pages : ℕ) (e : History) → ListingStands had pages old e → ListingStands had pages new (e ▹ Reset)
   pub counted : (e : History) → CountsStand old e → CountsStand new (e ▹ Reset)
   pub hints : (e : History) → HintsStand old e → HintsStand new (e ▹ Reset)
+  pub fetched : (e : History) → ListsStand old e → ListsStand new (e ▹ Reset)
 
 reset_standing : (start old new : DeviceState) (p : Progress) → WasReset old new → Standing start old p → Standing start new (reset p)
 reset_standing start old new p is at =
@@ -187,6 +191,7 @@ reset_standing start old new p is at =
       sizes = ap sizes_of is.reset ∙ at.sizes;
       shape = ap (λ (x : DeviceState). x.shape) is.reset ∙ at.shape;
       hints = is.hints p.events at.hints;
+      fetched = is.fetched p.events at.fetched;
       same = rw (is.reset) (record { geometry = at.same.geometry; luns = at.same.luns; units = at.same.units });
       faults = rw (is.reset) (record { least = at.faults.least; most = at.faults.most });
       plain = plain_reset p.events at.plain;

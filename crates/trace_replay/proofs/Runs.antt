@@ -1,5 +1,5 @@
 -- A run goes on line by line, and how it ends.
-use Rattle.std.proofs.Common.{◌≡◌, ℕ, ◌+◌, ◌<◌, ◌≤◌, List, [], ◌∷◌, ◌++◌, length, Option, Some, None, refl, sym, ◌∙◌, ap, subst, arith, inl, inr, ◌⊎◌, length-append}
+use Rattle.std.proofs.Common.{◌≡◌, ℕ, ◌+◌, ◌<◌, ◌≤◌, List, [], ◌∷◌, ◌++◌, Option, Some, None, refl, sym, ◌∙◌, ap, subst, arith, inl, inr, ◌⊎◌, length-append}
 use Rattle.std.proofs.lemmas.List.{append_assoc, append-nil, map-append}
 use Rattle.std.specs.Io.KnownBytes.{Appends, Keeps, prepend_known}
 use Rattle.flat_unit.specs.Print.{print}
@@ -10,6 +10,7 @@ use Rattle.flat_unit.specs.Sizes.{Sizes}
 use Rattle.flat_unit.specs.Trace.{Line}
 use Rattle.flat_unit.proofs.History.{replays_more}
 use Rattle.hpb_device.specs.Counted.{CountsStand}
+use Rattle.hpb_device.specs.Lists.{ListsStand}
 use Rattle.hpb_device.specs.Regions.{HintsStand}
 use Rattle.trace_replay.proofs.Counts.{begins_alone}
 use Rattle.hpb_device.specs.Standing.{first_of, sizes_of}
@@ -53,11 +54,11 @@ begins_chip start none uncounted counted = elim (sound_or_not start.store.geomet
   | inr unsound ↦ inr (record { stands = λ first. begins_foreign start first none unsound; unready = tt; counted = begins_alone (sizes_of start) start.counts uncounted; untried = refl })
 ]
 
-pub ran_begins : (start : DeviceState) (left w : Option (List ℕ)) (gathered : List ℕ) → start.tasks ≡ [] → start.counts ≡ no_counts → HintsStand start [] → CountsStand start [] → start.store.scanned ≡ 0
+pub ran_begins : (start : DeviceState) (left w : Option (List ℕ)) (gathered : List ℕ) → start.tasks ≡ [] → start.counts ≡ no_counts → HintsStand start [] → ListsStand start [] → CountsStand start [] → start.store.scanned ≡ 0
     → Rattle.std.proofs.Common.◌≤◌ 1 start.store.geometry.pages → gathered ≡ []
     → Ran (sizes_of start) left left 0 (StandsAndPrinted start start w w gathered)
 unfolding print
-ran_begins start left w gathered none uncounted hints counted scanned some fresh = record {
+ran_begins start left w gathered none uncounted hints fetched counted scanned some fresh = record {
   texts = [];
   lines = [];
   moment = begun;
@@ -72,6 +73,7 @@ ran_begins start left w gathered none uncounted hints counted scanned some fresh
       sizes = refl;
       shape = refl;
       hints = hints;
+      fetched = fetched;
       same = record { geometry = refl; luns = refl; units = refl };
       faults = record { least = omega arith; most = omega arith };
       plain = record { bytes = tt; short = tt };

@@ -26,7 +26,7 @@ use Rattle.flash_store.specs.Store.{StoreState}
 use Rattle.hpb_device.specs.Advance.{IsSameStore}
 use Rattle.hpb_device.specs.Calls.{GoesOn, LeavesFewer, StepsIn}
 use Rattle.hpb_device.specs.Left.{steps_left, unscanned}
-use Rattle.hpb_device.specs.Task.{WasSilent, tries_entry}
+use Rattle.hpb_device.specs.Task.{WasSilent, next_entry, to_try}
 use Rattle.hpb_device.proofs.Silence.{going_was_silent, tries_has_entry, tries_was_silent}
 use Rattle.hpb_device.specs.Keeps.{KeepsTasks}
 use Rattle.hpb_device.specs.Standing.{DeviceStands, DeviceStandsForeign, first_of, group_of, sizes_of}
@@ -35,6 +35,7 @@ use Rattle.hpb_device.proofs.Going.{going_counts_step, going_fails, going_group,
 use Rattle.hpb_device.proofs.Left.{few_kept}
 use Rattle.hpb_device.specs.Counted.{CountsStand}
 use Rattle.hpb_device.specs.Entries.{EntriesStand}
+use Rattle.hpb_device.specs.Lists.{ListsStand}
 use Rattle.hpb_device.specs.Regions.{HintsStand, KeepsHistory}
 use Rattle.hpb_device.specs.Listed.{ListingStands}
 use Rattle.hex.specs.Hex.{IsBytes}
@@ -95,8 +96,9 @@ pub record Stepping (old new : DeviceState) (r : Stepped) (out : List ℕ) : Typ
   pub entries : (first : First) (e : History) → DeviceStands old first e → EntriesStand old e → EntriesStand new (followed_by e (events_of (group_of r out)))
   pub listings : (had : Place → Bool) (pages : ℕ) (first : First) (e : History) → DeviceStands old first e → ListingStands had pages old e
       → ListingStands had pages new (followed_by e (events_of (group_of r out)))
-  pub counted : (first : First) (e : History) → DeviceStands old first e → EntriesStand old e → CountsStand old e → CountsStand new (followed_by e (events_of (group_of r out)))
+  pub counted : (first : First) (e : History) → DeviceStands old first e → EntriesStand old e → ListsStand old e → CountsStand old e → CountsStand new (followed_by e (events_of (group_of r out)))
   pub hints : (e : History) → KeepsHistory old e → HintsStand old e → HintsStand new (followed_by e (events_of (group_of r out)))
+  pub fetched : (e : History) → KeepsHistory old e → ListsStand old e → ListsStand new (followed_by e (events_of (group_of r out)))
   pub room : r.sent ≡ true → IsBytes out × (length out ≤ 4128)
   pub small : (place : ℕ × ℕ) → r.moved ≡ Some place → (place.0 < 2 ^ 8) × (place.1 < 2 ^ 32)
 
@@ -136,17 +138,17 @@ silent_step start old new m r out at tried goes silent =
       | inl asked ↦ ap (λ (b : Bool). b || (has_entry (sizes_of start) m.events t.tasks && not m.tried)) asked
       | inr tries ↦
           let entry : has_entry (sizes_of start) m.events t.tasks ≡ true = subst (λ (s : Sizes). has_entry s m.events t.tasks ≡ true) at.sizes
-          (tries_has_entry old goes.task goes.others t.tasks m.events goes.was t.keeps goes.ok tries) in
-          ap (λ (b : Bool). has_asked t.tasks || (b && not m.tried)) entry ∙ untried (has_asked t.tasks) m.tried refl tries
+          (tries_has_entry old goes.task goes.others t.tasks m.events tries.0 goes.was t.keeps goes.ok at.fetched tries.1) in
+          ap (λ (b : Bool). has_asked t.tasks || (b && not m.tried)) entry ∙ untried (has_asked t.tasks) m.tried refl tries.0 tries.1
     ])
   where
     or_true : (b : Bool) → (b || true) ≡ true
     or_true true = refl
     or_true false = refl
 
-    untried : (b was : Bool) → m.tried ≡ was → tries_entry goes.task ≡ true → (b || not was) ≡ true
-    untried b false is tries = or_true b
-    untried b true is tries = absurd (tries_was_silent old.tasks goes.task goes.others goes.was tries (tried is))
+    untried : (b was : Bool) → m.tried ≡ was → (x : ℕ) → to_try (next_entry old.lists goes.task) goes.task ≡ Some x → (b || not was) ≡ true
+    untried b false is x tries = or_true b
+    untried b true is x tries = absurd (tries_was_silent old.lists old.tasks goes.task goes.others x goes.was tries (tried is))
 
 -- a group that sends nothing
 pub sent_none : (o : Option (List ℕ)) (b : Bool) → (is_none o && b) ≡ true → o ≡ None
@@ -298,7 +300,7 @@ step_own start old new m r out at step own = record {
   stands = step.stands (first_of start) m.events own.stands;
   entries = step.entries (first_of start) m.events own.stands own.entries;
   listings = step.listings (has_page start.store.pages) (pages_in start) (first_of start) m.events own.stands own.listings;
-  counted = step.counted (first_of start) m.events own.stands own.entries own.counted;
+  counted = step.counted (first_of start) m.events own.stands own.entries at.fetched own.counted;
   tried = λ is. going_was_silent old.store.phase old new r out step.steps step.busy (not_sent r out r.sent refl (sent_none (group_of r out).sent _ is))
       (tried_before start old m at own.tried (sent_tried (group_of r out).sent _ is));
 }
@@ -328,6 +330,7 @@ step_standing start old new m r out at step =
       faults = failures_are-followed_by start.store.faults old.store.faults new.store.faults m.events (events_of (group_of r out)) at.faults (going_fails old.store.phase old new r out step.steps);
       plain = step_plain start old new m r out at step;
       hints = step.hints m.events (keeps_history start old m at) at.hints;
+      fetched = step.fetched m.events (keeps_history start old m at) at.fetched;
       lacking = all_weaker (LacksEnough old) (LacksEnough new) m.runs (λ run lacks. still_lacks old new r out run step lacks) at.lacking;
       quiet = quiet_after (pages_in start) m.quiet (unscanned old) (unscanned new) (is_none r.failed) at.quiet (going_unscanned old.store.phase old new r out step.steps);
       steps = omega (arith, at.steps, made);
@@ -357,6 +360,7 @@ with_runs start now p runs at lacking = record {
   faults = at.faults;
   plain = at.plain;
   hints = at.hints;
+  fetched = at.fetched;
   lacking = lacking;
   quiet = at.quiet;
   steps = at.steps;
@@ -401,11 +405,12 @@ pub stepping_of : (old new : DeviceState) (r : Stepped) (out : List ℕ)
     → ((first : First) (e : History) → DeviceStands old first e → EntriesStand old e → EntriesStand new (followed_by e (events_of (group_of r out))))
     → ((had : Place → Bool) (pages : ℕ) (first : First) (e : History) → DeviceStands old first e → ListingStands had pages old e
     → ListingStands had pages new (followed_by e (events_of (group_of r out))))
-    → ((first : First) (e : History) → DeviceStands old first e → EntriesStand old e → CountsStand old e → CountsStand new (followed_by e (events_of (group_of r out))))
+    → ((first : First) (e : History) → DeviceStands old first e → EntriesStand old e → ListsStand old e → CountsStand old e → CountsStand new (followed_by e (events_of (group_of r out))))
     → ((e : History) → KeepsHistory old e → HintsStand old e → HintsStand new (followed_by e (events_of (group_of r out))))
+    → ((e : History) → KeepsHistory old e → ListsStand old e → ListsStand new (followed_by e (events_of (group_of r out))))
     → (IsTrue r.idle → ⊥) → (IsIdleIn old.store.phase old.tasks → IsTrue r.idle) → OnFalse r.idle (StepsIn old.store.phase old new r out) → OnFalse r.idle (LeavesFewer old new r)
     → new.shape ≡ old.shape → (r.sent ≡ true → IsBytes out × (length out ≤ 4128)) → ((place : ℕ × ℕ) → r.moved ≡ Some place → (place.0 < 2 ^ 8) × (place.1 < 2 ^ 32)) → Stepping old new r out
-stepping_of old new r out stands foreign entries listings counted hints busy idle steps fewer shape room small = record {
+stepping_of old new r out stands foreign entries listings counted hints fetched busy idle steps fewer shape room small = record {
   stands = stands;
   foreign = foreign;
   busy = λ is. busy (idle is);
@@ -416,6 +421,7 @@ stepping_of old new r out stands foreign entries listings counted hints busy idl
   listings = listings;
   counted = counted;
   hints = hints;
+  fetched = fetched;
   room = room;
   small = small;
 }

@@ -15,6 +15,7 @@ use Rattle.hpb_device.specs.Calls.{uncollected_in}
 use Rattle.hpb_device.specs.Counted.{CountsStand}
 use Rattle.hpb_device.specs.Entries.{EntriesStand}
 use Rattle.hpb_device.specs.Listed.{ListingStands}
+use Rattle.hpb_device.specs.Lists.{ListsStand}
 use Rattle.hpb_device.specs.Regions.{HintsStand}
 use Rattle.hpb_device.specs.Standing.{DeviceStands, DeviceStandsForeign, first_of, sizes_of}
 use Rattle.hpb_device.specs.Left.{KeepsNoWrite, steps_left, unscanned}
@@ -62,6 +63,7 @@ pub record Standing (start now : DeviceState) (p : Progress) : Type 0 where
   pub faults : FailuresAre start.store.faults now.store.faults p.events
   pub plain : IsPlain p.events
   pub hints : HintsStand now p.events
+  pub fetched : ListsStand now p.events
   pub lacking : AllByRecursion (LacksEnough now) p.runs
   pub quiet : unscanned now ≡ pages_in start - p.quiet
   pub steps : now.counts.steps ≤ p.steps

@@ -605,14 +605,30 @@ fn push_reads(text: &mut Vec<u8>, alloc: Global, dice: &mut Dice) -> Result<(), 
     Ok(())
 }
 
-/// Adds HPB READ of some blocks, with an entry that may be one of the chip.
+/// Adds HPB READ of some blocks, with an entry that may be one of the chip and a read id whose list may be kept.
 fn push_read_by_entry(text: &mut Vec<u8>, alloc: Global, dice: &mut Dice) -> Result<(), Fail> {
     let (tag, lba, n, entry) = (dice.tag(), dice.roll(6), dice.roll(4), dice.roll(36));
-    let expected = n.saturating_mul(4096);
+    let (expected, id) = (n.saturating_mul(4096), dice.roll(4));
     let words = format!(in alloc;
-        "U 014000{tag:02x} z z {expected:08x} f800{lba:08x}{entry:016x}{n:02x}00"
+        "U 014000{tag:02x} z z {expected:08x} f800{lba:08x}{entry:016x}{n:02x}{id:02x}"
     )?;
     push_lines(text, &[words.as_str()])
+}
+
+/// Adds a prefetch of the entries of some blocks, of which each may be one of the chip, and its data.
+fn push_prefetch(text: &mut Vec<u8>, alloc: Global, dice: &mut Dice) -> Result<(), Fail> {
+    let (tag, lba, id, n) = (dice.tag(), dice.roll(4), dice.roll(4), dice.roll(4));
+    let length = n.saturating_mul(8);
+    let command = format!(in alloc;
+        "U 012000{tag:02x} z z {length:08x} fa02{lba:08x}{id:02x}{length:04x} 00000000000000"
+    )?;
+    push_lines(text, &[command.as_str(), "D"])?;
+    let mut data = format!(in alloc; "U 020000{tag:02x} z {length:08x} z {length:08x} z z z")?;
+    for _entry in 0..n {
+        let entry = format!(in alloc; " {:016x}", dice.roll(36))?;
+        data.push_str(entry.as_str())?;
+    }
+    push_lines(text, &[data.as_str(), "D"])
 }
 
 /// Adds READ BUFFER of all blocks of a subregion, or of some.
@@ -645,7 +661,7 @@ fn push_calls(text: &mut Vec<u8>, dice: &mut Dice) -> Result<(), Fail> {
 fn push_throw(text: &mut Vec<u8>, alloc: Global, dice: &mut Dice) -> Result<(), Fail> {
     let tag = dice.tag();
     let n = (dice.roll(4) & 3) as u16;
-    match dice.roll(20) {
+    match dice.roll(22) {
         0..=3 => {
             push_command(text, alloc, dice, "2a", tag, n)?;
             push_lines(text, &["D"])?;
@@ -668,6 +684,7 @@ fn push_throw(text: &mut Vec<u8>, alloc: Global, dice: &mut Dice) -> Result<(), 
         12 => push_read_by_entry(text, alloc, dice),
         13 => push_inactivation(text, alloc, dice),
         14 => push_reads(text, alloc, dice),
+        20 | 21 => push_prefetch(text, alloc, dice),
         _ => push_calls(text, dice),
     }
 }

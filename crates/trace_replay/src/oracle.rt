@@ -7,10 +7,12 @@ use std::test::Fail;
 
 pub mod counts;
 mod judged;
+mod lists;
 mod regions;
 mod sizes;
 
 use counts::{Counts, Seen, read_counts};
+use lists::Lists;
 use regions::Regions;
 use sizes::Sizes;
 
@@ -118,11 +120,11 @@ enum Command {
         lba: u32,
         n: u16,
     },
-    /// READ(10), or HPB READ with the entry of its first block.
+    /// READ(10), or HPB READ with the entry of its CDB and its read id.
     Read {
         lba: u32,
         n: u16,
-        entry: Option<u64>,
+        entry: Option<(u64, u8)>,
     },
     Write {
         lba: u32,
@@ -132,6 +134,12 @@ enum Command {
     List {
         lba: u32,
         given: u32,
+    },
+    /// WRITE BUFFER, by which the host gives so many bytes of entries for the blocks from one on, under a read id.
+    Prefetch {
+        lba: u32,
+        id: u8,
+        taken: u32,
     },
     /// WRITE BUFFER, by which the host gives a region up, or all regions.
     Inactivate {
@@ -160,7 +168,7 @@ impl Command {
             0xF8 if byte(cdb, 15) <= 0x7F => Command::Read {
                 lba,
                 n,
-                entry: Some(entry_at(cdb, 6)),
+                entry: Some((entry_at(cdb, 6), byte(cdb, 15))),
             },
             0xF8 => return Err(BAD_FIELD),
             0xF9 => return Command::list(cdb, sizes),
@@ -190,16 +198,28 @@ impl Command {
         })
     }
 
-    /// WRITE BUFFER. Its mode in which it prefetches entries is served no more than an unknown opcode.
+    /// WRITE BUFFER.
     fn write_buffer(cdb: &[u8], sizes: Sizes) -> Result<Command, (u8, u8)> {
         match byte(cdb, 1) {
             0x01 if first_of(cdb, sizes) < sizes.units => Ok(Command::Inactivate {
                 region: number(cdb, 2, 2),
             }),
-            0x02 => Err(UNKNOWN_OPCODE),
+            0x02 => Command::prefetch(cdb, sizes),
             0x03 => Ok(Command::InactivateAll),
             _ => Err(BAD_FIELD),
         }
+    }
+
+    /// WRITE BUFFER that prefetches entries, eight bytes for each of at most 255 blocks, under a read id from 1 to 127.
+    fn prefetch(cdb: &[u8], sizes: Sizes) -> Result<Command, (u8, u8)> {
+        let (lba, id, taken) = (number(cdb, 2, 4), byte(cdb, 6), number(cdb, 7, 2));
+        if id == 0 || id > 127 || taken % 8 != 0 || taken > 2040 {
+            return Err(BAD_FIELD);
+        }
+        if u64::from(lba) + u64::from(taken / 8) > u64::from(sizes.units) {
+            return Err(OUT_OF_RANGE);
+        }
+        Ok(Command::Prefetch { lba, id, taken })
     }
 
     /// The bytes that it sends.
@@ -216,6 +236,7 @@ impl Command {
     fn taken(self) -> u32 {
         match self {
             Command::Write { n, .. } => u32::from(n) * BLOCK_BYTES,
+            Command::Prefetch { taken, .. } => taken,
             _ => 0,
         }
     }
@@ -479,9 +500,9 @@ impl Place {
     }
 }
 
-/// The tasks and blocks of a device whose transcript is read, the regions of each unit, the reply that is due, the call
-/// of the chip that failed directly before, whether the chip must have been scanned since it was reset, and what was
-/// seen of the counts and told.
+/// The tasks and blocks of a device whose transcript is read, the regions of each unit, the lists of entries, the reply
+/// that is due, the call of the chip that failed directly before, whether the chip must have been scanned since it was
+/// reset, and what was seen of the counts and told.
 #[derive(Drop)]
 struct Oracle {
     alloc: Global,
@@ -489,6 +510,7 @@ struct Oracle {
     tasks: VecDeque<Task>,
     places: Vec<Place>,
     regions: Vec<Regions>,
+    lists: Lists,
     due: Option<Vec<u8>>,
     failed: Option<Call>,
     is_scanned: bool,
@@ -508,6 +530,7 @@ impl Oracle {
             tasks: VecDeque::new(alloc),
             places,
             regions: all_regions(alloc, sizes)?,
+            lists: Lists::new(alloc),
             due: None,
             failed: None,
             is_scanned: false,
@@ -581,10 +604,11 @@ impl Oracle {
         Ok(())
     }
 
-    /// All tasks go, all regions are forgotten, and the chip is scanned anew.
+    /// All tasks and lists go, all regions are forgotten, and the chip is scanned anew.
     fn reset(&mut self) -> Result<(), Stop> {
         self.is_scanned = false;
         reset_all(&mut self.regions);
+        self.lists.clear();
         for _task in 0..ROOM {
             if let Some(task) = self.tasks.pop_front() {
                 self.settle(&task, false)?;
@@ -871,10 +895,12 @@ impl Oracle {
             Command::List { lba, .. } => listed_from(task, self.sizes.units, lba),
             _ => 0,
         };
+        let lun = task.lun;
         task.sent = sent.saturating_add(upiu.count);
         match command {
-            Command::Read { entry, .. } => {
-                let entry = if sent == 0 { entry } else { None };
+            Command::Read { lba, entry, .. } => {
+                let k = sent / BLOCK_BYTES;
+                let entry = entry.and_then(|(entry, id)| self.lists.entry(lun, id, lba, entry, k));
                 self.show_block(place, entry, upiu.segment)
             }
             Command::List { .. } => self.list(place, upiu.segment),
@@ -915,7 +941,21 @@ impl Oracle {
         if let (Command::Read { .. }, UNREAD) = (task.command, sense_of(bytes)) {
             self.seen.count_failed();
         }
+        self.end_list(&task, is_good(bytes))?;
         self.settle(&task, is_good(bytes))
+    }
+
+    /// A list that came is kept where its command was answered GOOD, and that of an HPB READ is used up.
+    fn end_list(&mut self, task: &Task, is_good: bool) -> Result<(), Stop> {
+        match task.command {
+            Command::Prefetch { lba, id, .. } if is_good => self.lists.keep(task, id, lba)?,
+            Command::Read {
+                entry: Some((_, id)),
+                ..
+            } => self.lists.remove(task.lun, id),
+            _ => {}
+        }
+        Ok(())
     }
 
     /// A task has gone. The blocks of a write that came count alone where it was answered GOOD, and else are old or

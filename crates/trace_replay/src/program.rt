@@ -2,6 +2,7 @@ ghost use Rattle.std.specs.Prelude.{IsTrue, false, ◌≡◌, ◌≤◌, ◌⊎�
 ghost use Rattle.std.specs.Io.KnownBytes.{Appends, IsAtEnd, prepend_known};
 ghost use Rattle.hpb_device.specs.Counted.{CountsStand};
 ghost use Rattle.hpb_device.specs.Counts.{no_counts};
+ghost use Rattle.hpb_device.specs.Lists.{ListsStand};
 ghost use Rattle.hpb_device.specs.Regions.{HintsStand};
 ghost use Rattle.hpb_device.specs.Standing.{sizes_of};
 ghost use Rattle.trace_replay.specs.Moments.{AreCountsOf, Standing};
@@ -207,6 +208,7 @@ fn replay<S: Source, K: Sink, F: Flash>(
     requires begun { device.old.tasks ≡ [] }
     requires uncounted { device.old.counts ≡ no_counts }
     requires hints { HintsStand device.old [] }
+    requires fetched { ListsStand device.old [] }
     requires counted { CountsStand device.old [] }
     requires scanned { device.old.store.scanned ≡ 0 }
     requires some_page { 1 ≤ device.old.store.geometry.pages }

@@ -498,8 +498,8 @@ const INACTIVATED: [(&str, &str); 4] = [
     ("D", "< 21000001 z z z z z z z"),
 ];
 
-/// WRITE BUFFER that is refused: of a region past the unit, in modes that don't exist, and to prefetch an entry.
-const NOT_INACTIVATED: [(&str, &str); 4] = [
+/// WRITE BUFFER that is refused: of a region past the unit, and in modes that don't exist.
+const NOT_INACTIVATED: [(&str, &str); 3] = [
     (
         "U 01000001 z z z fa010003 z z z",
         "< 21000001 00000102 00000014 z z z z z 00127000 05000000 000a0000 00002400 z",
@@ -512,9 +512,156 @@ const NOT_INACTIVATED: [(&str, &str); 4] = [
         "U 01000001 z z z fa040000 z z z",
         "< 21000001 00000102 00000014 z z z z z 00127000 05000000 000a0000 00002400 z",
     ),
+];
+
+/// Three blocks are written, on the pages 0 to 2 of an erased chip.
+const THREE_BLOCKS: [(&str, &str); 4] = [
+    ("U 01200002 z z 00003000 2a000000 z 03000000 z", ""),
+    ("D", "< 31000002 z z z 00003000 z z z"),
     (
-        "U 01200001 z z 00000008 fa020000 00040100 08000000 z",
-        "< 21200001 00000102 00000014 00000008 z z z z 00127000 05000000 000a0000 00002000 z",
+        "U 02000002 z 00003000 z 00003000 z z z block zeros block",
+        "",
+    ),
+    ("D", "< 21000002 z z z z z z z"),
+];
+
+/// Entries of two blocks are prefetched under read id 127. The first read uses them up, and the second one tries that of
+/// its CDB in vain. Read id 128 doesn't exist.
+const PREFETCHED: [(&str, &str); 9] = [
+    ("U 0120000c z z 00000010 fa020000 00007f00 10000000 z", ""),
+    ("D", "< 3100000c z z z 00000010 z z z"),
+    ("U 0200000c z 00000010 z 00000010 z z z z z z 00000001", ""),
+    ("D", "< 2100000c z z z z z z z"),
+    (
+        "U 0140000d z z 00002000 f8000000 0000ffff ffffffff ffff027f",
+        "",
+    ),
+    (
+        "D",
+        "< 2200000d z 00001000 z 00001000 z z z block / \
+         < 2200000d z 00001000 00001000 00001000 z z z zeros / < 2100000d z z z z z z z",
+    ),
+    (
+        "U 0140000d z z 00002000 f8000000 0000ffff ffffffff ffff027f",
+        "",
+    ),
+    (
+        "D",
+        "< 2200000d z 00001000 z 00001000 z z z block / \
+         < 2200000d z 00001000 00001000 00001000 z z z zeros / < 2100000d z z z z z z z",
+    ),
+    (
+        "U 0140000d z z 00002000 f8000000 0000ffff ffffffff ffff0280",
+        "< 2120000d 00000102 00000014 00002000 z z z z 00127000 05000000 000a0000 00002400 z",
+    ),
+];
+
+/// A list with a stale entry in its middle is used, and then none is kept.
+const STALE_IN_THE_MIDDLE: [(&str, &str); 8] = [
+    ("U 0120000c z z 00000018 fa020000 00000100 18000000 z", ""),
+    ("D", "< 3100000c z z z 00000018 z z z"),
+    (
+        "U 0200000c z 00000018 z 00000018 z z z z z z 00000007 z 00000002",
+        "",
+    ),
+    ("D", "< 2100000c z z z z z z z"),
+    (
+        "U 0140000d z z 00003000 f8000000 0000ffff ffffffff ffff0301",
+        "",
+    ),
+    (
+        "D",
+        "< 2200000d z 00001000 z 00001000 z z z block / \
+         < 2200000d z 00001000 00001000 00001000 z z z zeros / \
+         < 2200000d z 00001000 00002000 00001000 z z z block / < 2100000d z z z z z z z",
+    ),
+    ("U 0140000d z z 00003000 f8000000 z z 00000301", ""),
+    (
+        "D",
+        "< 2200000d z 00001000 z 00001000 z z z block / \
+         < 2200000d z 00001000 00001000 00001000 z z z zeros / \
+         < 2200000d z 00001000 00002000 00001000 z z z block / < 2100000d z z z z z z z",
+    ),
+];
+
+/// A list of another LBA gives no entry, and is used up all the same: a read of its own LBA finds none.
+const OF_ANOTHER_LBA: [(&str, &str); 8] = [
+    ("U 0120000c z z 00000010 fa020000 00010100 10000000 z", ""),
+    ("D", "< 3100000c z z z 00000010 z z z"),
+    (
+        "U 0200000c z 00000010 z 00000010 z z z z 00000001 z 00000002",
+        "",
+    ),
+    ("D", "< 2100000c z z z z z z z"),
+    (
+        "U 0140000d z z 00001000 f8000000 0000ffff ffffffff ffff0101",
+        "",
+    ),
+    (
+        "D",
+        "< 2200000d z 00001000 z 00001000 z z z block / < 2100000d z z z z z z z",
+    ),
+    (
+        "U 0140000d z z 00001000 f8000000 0001ffff ffffffff ffff0101",
+        "",
+    ),
+    (
+        "D",
+        "< 2200000d z 00001000 z 00001000 z z z zeros / < 2100000d z z z z z z z",
+    ),
+];
+
+/// A list is replaced by an empty one, so that a read has no entry at all, not even that of its CDB.
+const EMPTIED: [(&str, &str); 8] = [
+    ("U 0120000c z z 00000008 fa020000 00000100 08000000 z", ""),
+    ("D", "< 3100000c z z z 00000008 z z z"),
+    ("U 0200000c z 00000008 z 00000008 z z z z z", ""),
+    ("D", "< 2100000c z z z z z z z"),
+    ("U 0120000c z z z fa020000 00000100 z z", ""),
+    ("D", "< 2100000c z z z z z z z"),
+    ("U 0140000d z z 00001000 f8000000 z z 00000101", ""),
+    (
+        "D",
+        "< 2200000d z 00001000 z 00001000 z z z block / < 2100000d z z z z z z z",
+    ),
+];
+
+/// A prefetch that is refused: of read id 0 and 128, of a length that is no multiple of 8 or above 2040, and of blocks
+/// past the unit. One whose data aren't as asked for keeps no list.
+const NOT_PREFETCHED: [(&str, &str); 10] = [
+    (
+        "U 0120000c z z 00000008 fa020000 00000000 08000000 z",
+        "< 2120000c 00000102 00000014 00000008 z z z z 00127000 05000000 000a0000 00002400 z",
+    ),
+    (
+        "U 0120000c z z 00000008 fa020000 00008000 08000000 z",
+        "< 2120000c 00000102 00000014 00000008 z z z z 00127000 05000000 000a0000 00002400 z",
+    ),
+    (
+        "U 0120000c z z 00000009 fa020000 00000100 09000000 z",
+        "< 2120000c 00000102 00000014 00000009 z z z z 00127000 05000000 000a0000 00002400 z",
+    ),
+    (
+        "U 0120000c z z 00000800 fa020000 00000108 00000000 z",
+        "< 2120000c 00000102 00000014 00000800 z z z z 00127000 05000000 000a0000 00002400 z",
+    ),
+    (
+        "U 0120000c z z 00000010 fa020000 00130100 10000000 z",
+        "< 2120000c 00000102 00000014 00000010 z z z z 00127000 05000000 000a0000 00002100 z",
+    ),
+    ("U 0120000c z z 00000008 fa020000 00000100 08000000 z", ""),
+    ("D", "< 3100000c z z z 00000008 z z z"),
+    (
+        "U 0200000c z 00000008 00000008 00000008 z z z z z",
+        "< 2120000c 00000102 00000014 00000008 z z z z 00127000 0b000000 000a0000 00004b00 z",
+    ),
+    (
+        "U 0140000d z z 00001000 f8000000 0000ffff ffffffff ffff0101",
+        "",
+    ),
+    (
+        "D",
+        "< 2200000d z 00001000 z 00001000 z z z block / < 2100000d z z z z z z z",
     ),
 ];
 
@@ -550,7 +697,7 @@ type Row = (
     &'static str,
 );
 
-const ROWS: [Row; 28] = [
+const ROWS: [Row; 31] = [
     ("nothing", REPLAY, 0, &[], NONE, "T=0,0,0,0,0"),
     (
         "never written",
@@ -590,6 +737,35 @@ const ROWS: [Row; 28] = [
         REPLAY,
         0,
         &[&BY_A_STALE_ENTRY],
+        NONE,
+        "T=41,1,0,0,0",
+    ),
+    (
+        "by a list",
+        REPLAY,
+        0,
+        &[&THREE_BLOCKS, &PREFETCHED],
+        NONE,
+        "T=46,2,2,0,0",
+    ),
+    (
+        "by lists that are stale, of another LBA, and empty",
+        REPLAY,
+        0,
+        &[
+            &THREE_BLOCKS,
+            &STALE_IN_THE_MIDDLE,
+            &OF_ANOTHER_LBA,
+            &EMPTIED,
+        ],
+        NONE,
+        "T=61,6,3,0,0",
+    ),
+    (
+        "lists that are refused",
+        REPLAY,
+        0,
+        &[&THREE_BLOCKS, &NOT_PREFETCHED],
         NONE,
         "T=41,1,0,0,0",
     ),

@@ -18,7 +18,6 @@ sizes = record {
   per_region = 128;
   per_sub = 32;
   opcodes = 0x00 ∷ 0x25 ∷ 0x28 ∷ 0x2A ∷ 0x35 ∷ 0xF8 ∷ 0xF9 ∷ 0xFA ∷ [];
-  prefetches = true;
   queries = true;
   manages = true;
 }

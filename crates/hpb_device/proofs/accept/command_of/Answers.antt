@@ -1,30 +1,26 @@
-use Rattle.std.proofs.Common.{◌≡◌, true, false, Err, ap, refl, sym, ◌∙◌, rules}
+use Rattle.std.proofs.Common.{Err, ap, refl, subst, sym, ◌∙◌}
+use Rattle.hpb_cdb.specs.Cdb.{IsFault}
 use Rattle.hpb_cdb.specs.declared.fault.CdbFault.TheVariants.{Opcode, Field, Range}
-use Rattle.hpb_device.proofs.Served.{is_served, not_prefetch}
+use Rattle.hpb_device.proofs.Served.{is_served, known_opcode, refused_opcode, spelled}
 use Rattle.hpb_device.proofs.accept.command_of.Goals as goal
 
-pub returns-then-not-is_served-clause-command_of : goal.returns-then-not-is_served-clause-command_of
-returns-then-not-is_served-clause-command_of c = λ luns geometry.
-    let is : c.is_served.result ≡ false = search rules in
-    (Opcode, rw (sym (c.is_served.ensures luns geometry c.args.limits) ∙ is) refl, refl)
-
 pub returns-in-Ok-clause-served : goal.returns-in-Ok-clause-served
-returns-in-Ok-clause-served c =
-    let is : c.is_served.result ≡ true = search rules in
-    is_served c.args.limits c.args.cdb.now c.in-Ok.command c.in-Ok.ensures.command
-    (not_prefetch _ _ (sym (c.is_served.ensures 0 (record { blocks = 0; pages = 0 }) c.args.limits) ∙ is))
+returns-in-Ok-clause-served c = is_served c.args.limits c.args.cdb.now c.in-Ok.command c.in-Ok.ensures.command
 
 pub returns-in-Ok-clause-command_of : goal.returns-in-Ok-clause-command_of
 returns-in-Ok-clause-command_of c = λ luns geometry.
-    let is : c.is_served.result ≡ true = search rules in
-    rw (sym (c.is_served.ensures luns geometry c.args.limits) ∙ is) (sym c.in-Ok.ensures.answer)
+    rw (spelled c.args.cdb.now c.in-Ok.command c.in-Ok.ensures.command.spells) (sym c.in-Ok.ensures.answer)
+
+pub returns-in-Err-Opcode-clause-command_of : goal.returns-in-Err-Opcode-clause-command_of
+returns-in-Err-Opcode-clause-command_of c = λ luns geometry.
+    (Opcode, refused_opcode _ c.args.limits c.args.cdb.now (sym c.in-Err-Opcode.ensures.answer ∙ ap Err c.in-Err-Opcode.field-0-is), refl)
 
 pub returns-in-Err-Field-clause-command_of : goal.returns-in-Err-Field-clause-command_of
 returns-in-Err-Field-clause-command_of c = λ luns geometry.
-    let is : c.is_served.result ≡ true = search rules in
-    (Field, rw (sym (c.is_served.ensures luns geometry c.args.limits) ∙ is) (sym c.in-Err-Field.ensures.answer ∙ ap Err c.in-Err-Field.field-0-is), refl)
+    let fault : IsFault c.args.cdb.now c.args.limits Field = subst (IsFault c.args.cdb.now c.args.limits) c.in-Err-Field.field-0-is c.in-Err-Field.ensures.fault in
+    (Field, rw (known_opcode c.args.cdb.now fault.0) (sym c.in-Err-Field.ensures.answer ∙ ap Err c.in-Err-Field.field-0-is), refl)
 
 pub returns-in-Err-Range-clause-command_of : goal.returns-in-Err-Range-clause-command_of
 returns-in-Err-Range-clause-command_of c = λ luns geometry.
-    let is : c.is_served.result ≡ true = search rules in
-    (Range, rw (sym (c.is_served.ensures luns geometry c.args.limits) ∙ is) (sym c.in-Err-Range.ensures.answer ∙ ap Err c.in-Err-Range.field-0-is), refl)
+    let fault : IsFault c.args.cdb.now c.args.limits Range = subst (IsFault c.args.cdb.now c.args.limits) c.in-Err-Range.field-0-is c.in-Err-Range.ensures.fault in
+    (Range, rw (spelled c.args.cdb.now fault.0 fault.1) (sym c.in-Err-Range.ensures.answer ∙ ap Err c.in-Err-Range.field-0-is), refl)

@@ -61,6 +61,5 @@ returns-clause-ok g c =
         programmed = ok.within.programmed;
         sent = omega (arith, more, counted);
         whole_sent = whole;
-        tried = search rules;
       };
     }

@@ -1,9 +1,10 @@
-use Rattle.std.proofs.Common.{◌≡◌, ◌≢◌, ℕ, ◌+◌, ◌-◌, ◌*◌, ◌^◌, ◌<◌, length, slice_range, arith, sym, rules, refl, subst}
+use Rattle.std.proofs.Common.{◌≡◌, ◌≢◌, ℕ, ◌+◌, ◌-◌, ◌*◌, ◌^◌, ◌<◌, length, slice_range, arith, sym, rules, refl, ap, subst}
 use Rattle.flash_pages.specs.Place.{Place}
 use Rattle.flash_pages.specs.Unit.{next_seq}
 use Rattle.collector_laws.specs.Changes.{until_room}
 use Rattle.collector_laws.proofs.Sound.{next_seq-le}
 use Rattle.flash_store.specs.Store.{Collects, StoreState, Writes as StoreWrites, collecting}
+use Rattle.flat_unit.specs.Command.{is_write}
 use Rattle.hpb_device.specs.Left.{wait_of}
 use Rattle.hpb_device.proofs.Commands.{writes}
 use Rattle.hpb_device.proofs.Left.{collected_fewer, programmed_fewer, wait_most}
@@ -31,6 +32,7 @@ returns-in-Ok-Done-clause-advances g c =
       (
         start,
         record {
+          write = ap is_write c.requires.command;
           more = c.requires.more;
           numbered = omega (arith, most, other);
           starts = omega (arith, c.requires.held.rest);
@@ -50,7 +52,7 @@ returns-in-Ok-Done-clause-fewer g c =
     let pages : new.geometry.pages ≡ old.geometry.pages = search rules in
     let some = c.requires.stands.served.limits.least_pages in
     let few = wait_most new (omega (arith, some, pages)) in
-    programmed_fewer c.args.limits old.geometry.pages (wait_of old) (wait_of new) task c.args.n (omega (arith, few, pages)) moves.takes
+    programmed_fewer c.args.limits old.geometry.pages (wait_of old) (wait_of new) task c.args.lba c.args.n (omega (arith, few, pages)) c.requires.command
     (omega (arith, moves.takes, c.requires.more, c.requires.task.within.come, c.requires.task.within.asked))
 
 pub returns-in-Ok-Collected-clause-fewer : goal.returns-in-Ok-Collected-clause-fewer
@@ -66,5 +68,5 @@ returns-in-Ok-Collected-clause-fewer g c =
     let sooner : until_room new.geometry (collecting new) < until_room old.geometry (collecting old) =
     subst (λ g. until_room g (collecting new) < until_room old.geometry (collecting old)) (sym geometry) collects.sooner in
     let less : wait_of new < wait_of old = omega (arith, sooner, most, pages) in
-    collected_fewer c.args.limits old.geometry.pages (wait_of old) (wait_of new) task c.args.n less moves.takes
+    collected_fewer c.args.limits old.geometry.pages (wait_of old) (wait_of new) task c.args.lba c.args.n less c.requires.command
     (omega (arith, moves.takes, c.requires.more, c.requires.task.within.come, c.requires.task.within.asked))

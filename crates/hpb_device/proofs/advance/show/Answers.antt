@@ -5,7 +5,7 @@ use Rattle.flash_pages.specs.Unit.{block_of}
 use Rattle.upiu_wire.specs.Upiu.{upiu_out}
 use Rattle.upiu_wire.specs.Written.{data_upiu}
 use Rattle.upiu_wire.specs.declared.kind.Kind.TheVariants.{DataIn}
-use Rattle.hpb_device.proofs.Commands.{block_fewer, block_ok, read_fails, reads, reads_looked_up}
+use Rattle.hpb_device.proofs.Commands.{block_fewer, block_ok, page_looked_up, read_fails, reads}
 use Rattle.hpb_device.proofs.advance.show.Goals as goal
 
 pub overflow_add-lba : goal.overflow_add-lba
@@ -29,14 +29,11 @@ returns-in-Ok-clause-advances g c =
     let block = c.in-Ok.ensures.block ∙ ap block_at (sym c.requires.first) in
     λ held. (
       record {
-        untried = c.requires.untried;
-        sends = record {
-          reads = c.requires.reads;
-          more = search rules;
-          size = ap (λ (lba : ℕ). length (block_at lba)) c.requires.first ∙ (ap (λ (xs : List ℕ). length xs) (sym c.in-Ok.ensures.block) ∙ c.in-Ok.ensures.size);
-          sent = c.put_data_in.ensures.written ∙ ap (λ (bytes : List ℕ). upiu_out (data_upiu DataIn task.lun task.tag task.sent bytes)) block;
-          task_is = c.with_block.ensures;
-        };
+        reads = c.requires.reads;
+        more = search rules;
+        size = ap (λ (lba : ℕ). length (block_at lba)) c.requires.first ∙ (ap (λ (xs : List ℕ). length xs) (sym c.in-Ok.ensures.block) ∙ c.in-Ok.ensures.size);
+        sent = c.put_data_in.ensures.written ∙ ap (λ (bytes : List ℕ). upiu_out (data_upiu DataIn task.lun task.tag task.sent bytes)) block;
+        task_is = c.with_block.ensures;
       },
       search rules,
       refl,
@@ -47,9 +44,11 @@ returns-in-Err-clause-advances g c = λ held.
     let old = c.args.store.now in
     let new = c.read_mapped.follows.lender-at-none in
     let task = c.args.task in
-    let due = reads_looked_up old task c.args.lba c.requires.untried c.requires.first c.in-Err.ensures.called in
     let rose : Rose old.faults new.faults = search rules in
-    (read_fails old new task c.check.result c.requires.reads (search rules) c.requires.untried due rose (search rules) c.check.ensures, search rules)
+    (read_fails old new task c.check.result c.requires.reads (search rules) rose (search rules) c.check.ensures, search rules)
+
+pub returns-in-Err-clause-entries : goal.returns-in-Err-clause-entries
+returns-in-Err-clause-entries g c = λ entry none. (none, page_looked_up c.args.store.now c.args.task c.args.lba c.requires.first c.in-Err.ensures.called)
 
 pub returns-in-Ok-clause-ok : goal.returns-in-Ok-clause-ok
 returns-in-Ok-clause-ok g c =

@@ -14,7 +14,7 @@ use Rattle.trace_replay.proofs.program.replay.Goals as goal
 
 pub loop-number-init : goal.loop-number-init
 loop-number-init g c = record {
-  ran = ran_begins c.args.device.now _ _ _ c.requires.begun c.requires.uncounted c.requires.hints c.requires.counted c.requires.scanned c.requires.some_page c.requires.fresh;
+  ran = ran_begins c.args.device.now _ _ _ c.requires.begun c.requires.uncounted c.requires.hints c.requires.fetched c.requires.counted c.requires.scanned c.requires.some_page c.requires.fresh;
   at_end = λ ended. absurd (false≢true (sym (ap (λ (r : ReaderState). r.ended) c.requires.unread) ∙ ended));
   source_same = refl;
   sink_same = refl;

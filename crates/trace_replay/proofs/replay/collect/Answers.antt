@@ -16,7 +16,7 @@ loop-call-init g c = record {
 
 pub loop-call-preserved : goal.loop-call-preserved
 loop-call-preserved g c =
-    let call = calling_of c.loop-call.device c.collect-stepped.new.self c.collect-stepped.result c.collect-stepped.ensures.stands c.collect-stepped.ensures.foreign c.collect-stepped.ensures.entries c.collect-stepped.ensures.listings c.collect-stepped.ensures.counted c.collect-stepped.ensures.hints c.collect-stepped.ensures.sound
+    let call = calling_of c.loop-call.device c.collect-stepped.new.self c.collect-stepped.result c.collect-stepped.ensures.stands c.collect-stepped.ensures.foreign c.collect-stepped.ensures.entries c.collect-stepped.ensures.listings c.collect-stepped.ensures.counted c.collect-stepped.ensures.hints c.collect-stepped.ensures.fetched c.collect-stepped.ensures.sound
     (λ idle. false≢true (sym c.if-stepped.false ∙ idle)) c.collect-stepped.ensures.collects c.collect-stepped.ensures.fewer c.collect-stepped.ensures.most c.collect-stepped.ensures.over
     c.collect-stepped.ensures.left c.collect-stepped.ensures.shape c.push_moved.ensures.small in
     record {

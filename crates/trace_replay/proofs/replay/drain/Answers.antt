@@ -19,7 +19,7 @@ pub steps-preserved : goal.steps-preserved
 steps-preserved g c =
     let going : AtRest c.steps.device → ⊥ = c.in-Step.ensures.rest.0 refl in
     let step : Stepping c.steps.device c.step-stepped.new.self c.step-stepped.result c.step-stepped.new.out =
-    stepping_of c.steps.device c.step-stepped.new.self c.step-stepped.result c.step-stepped.new.out c.step-stepped.ensures.stands c.step-stepped.ensures.foreign c.step-stepped.ensures.entries c.step-stepped.ensures.listings c.step-stepped.ensures.counted c.step-stepped.ensures.hints
+    stepping_of c.steps.device c.step-stepped.new.self c.step-stepped.result c.step-stepped.new.out c.step-stepped.ensures.stands c.step-stepped.ensures.foreign c.step-stepped.ensures.entries c.step-stepped.ensures.listings c.step-stepped.ensures.counted c.step-stepped.ensures.hints c.step-stepped.ensures.fetched
     (λ idle. going (idle_rests c.steps.device.store.phase c.steps.device.tasks (c.step-stepped.ensures.idle.0 idle))) c.step-stepped.ensures.idle.1 c.step-stepped.ensures.steps c.step-stepped.ensures.fewer c.step-stepped.ensures.shape
     c.push_step.ensures.bytes c.push_step.ensures.small in
     record {

@@ -16,7 +16,7 @@ loop-step-init g c = record {
 
 pub loop-step-preserved : goal.loop-step-preserved
 loop-step-preserved g c =
-    let step = stepping_of c.loop-step.device c.step-stepped.new.self c.step-stepped.result c.step-stepped.new.out c.step-stepped.ensures.stands c.step-stepped.ensures.foreign c.step-stepped.ensures.entries c.step-stepped.ensures.listings c.step-stepped.ensures.counted c.step-stepped.ensures.hints
+    let step = stepping_of c.loop-step.device c.step-stepped.new.self c.step-stepped.result c.step-stepped.new.out c.step-stepped.ensures.stands c.step-stepped.ensures.foreign c.step-stepped.ensures.entries c.step-stepped.ensures.listings c.step-stepped.ensures.counted c.step-stepped.ensures.hints c.step-stepped.ensures.fetched
     (λ idle. false≢true (sym c.if-stepped.false ∙ idle)) c.step-stepped.ensures.idle.1 c.step-stepped.ensures.steps c.step-stepped.ensures.fewer c.step-stepped.ensures.shape c.push_step.ensures.bytes c.push_step.ensures.small in
     record {
       makes = λ start before p at printed.

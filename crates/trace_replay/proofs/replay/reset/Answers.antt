@@ -20,6 +20,7 @@ returns-clause-serves g c start before p at printed =
       listings = c.reset.ensures.listings;
       counted = c.reset.ensures.counted;
       hints = c.reset.ensures.hints;
+      fetched = c.reset.ensures.fetched;
     } in
     reset_leads start c.args.device.now c.reset.new.self before _ _ c.push_event.new.self p was at (c.in_ok-make_room.ensures.text before (print p.events) printed) c.push_event.ensures
 

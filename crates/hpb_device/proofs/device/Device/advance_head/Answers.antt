@@ -1,10 +1,10 @@
-use Rattle.std.proofs.Common.{◌≡◌, ◌*◌, ℕ, ◌<◌, List, ◌∷◌, drop, arith, sym, ap, subst, ◌∙◌, rules}
+use Rattle.std.proofs.Common.{Option, length, ◌≤◌, ◌≡◌, ◌*◌, ℕ, ◌<◌, List, ◌∷◌, drop, arith, sym, ap, subst, ◌∙◌, rules}
 use Rattle.flash_pages.specs.declared.chip.Geometry.{Geometry}
 use Rattle.flash_store.specs.declared.answers.Phase.TheVariants.{Scanning, Ready}
 use Rattle.flash_store.specs.Store.{IsSame, IsStanding}
 use Rattle.hpb_cdb.specs.declared.limits.Limits.{Limits}
 use Rattle.hpb_device.specs.declared.task.Task.{Task}
-use Rattle.hpb_device.specs.Advance.{Advances, AllTasks}
+use Rattle.hpb_device.specs.Advance.{Advances, AllTasks, ServesEntry, WhereOver}
 use Rattle.hpb_device.specs.Counts.{counted}
 use Rattle.hpb_device.specs.Calls.{Leaves}
 use Rattle.hpb_device.specs.Regions.{regions_after, segment_told}
@@ -12,9 +12,11 @@ use Rattle.hpb_device.specs.Left.{steps_left, steps_of, tasks_left, unscanned, w
 use Rattle.hpb_device.specs.Limits.{limits_of}
 use Rattle.hpb_device.specs.State.{DeviceState, IsSound}
 use Rattle.hpb_device.specs.StoreCounts.{CountsStep}
-use Rattle.hpb_device.specs.Task.{IsQueue, IsTaskOk}
+use Rattle.hpb_device.specs.Task.{IsQueue, IsTaskOk, bytes_taken, next_entry}
 use Rattle.hpb_device.proofs.Chips.{whole_after}
 use Rattle.hpb_device.proofs.Commands.{first_of}
+use Rattle.hpb_device.specs.Lists.{lists_stepped}
+use Rattle.hpb_device.proofs.Leaving.{over_short, stepped_same}
 use Rattle.hpb_device.proofs.Hinting.{progress_within}
 use Rattle.hpb_device.proofs.Leaving.{leaves_queue, on_false, still_advances}
 use Rattle.hpb_device.proofs.Left.{leaves_fewer, wait_most}
@@ -24,13 +26,14 @@ use Rattle.hpb_device.proofs.device.Device.advance_head.Goals as goal
 
 -- the device before the step, and after it
 abbrev before : (g : Over) → After-leave g → DeviceState
-before g c = let s = c.self.inside in record { store = s.store; shape = s.shape; regions = s.regions.items; tasks = s.tasks.items; held = s.held.items; counts = s.counts }
+before g c = let s = c.self.inside in record { store = s.store; shape = s.shape; regions = s.regions.items; lists = s.lists; tasks = s.tasks.items; held = s.held.items; counts = s.counts }
 
 abbrev after : (g : Over) → After-leave g → DeviceState
 after g c = record {
   store = c.advance-progress.new.store;
   shape = c.self.inside.shape;
   regions = c.take_progress-hint.new.machines.items;
+  lists = c.step_list.new.lists;
   tasks = c.leave.new.tasks.items;
   held = c.leave.new.held.items;
   counts = c.after-counts.result;
@@ -88,6 +91,7 @@ invariant_of-self g c =
       served = rw (same.geometry) (c.self.invariant.served);
       whole = whole.count ∙ (c.self.invariant.whole ∙ ap (λ (geometry : Geometry). geometry.blocks * geometry.pages) (sym same.geometry));
       shapes = c.take_progress-hint.ensures.shapes ∙ c.self.invariant.shapes;
+      all_lists = c.step_list.ensures.count ∙ c.self.invariant.all_lists;
       queue = leaves_queue _ s.luns lim p.result _ c.leave.new.tasks.items p.new.held.items c.leave.new.held.items c.leave.result _ _ c.leave.ensures.leaves c.leave.ensures.stays ok p.ensures.held queue.2;
       burst = omega (arith, c.self.invariant.burst, c.leave.ensures.room, p.ensures.room);
       unbegun = λ other. absurd (other (same.phase ∙ is_ready g c));
@@ -115,6 +119,9 @@ returns-clause-fewer g c =
     let fewer_left : steps_left n < steps_left d = omega (arith, fewer, now_left, was_left, blocks, same.scanned) in
     on_false c.leave.result.idle (subst (λ (x : DeviceState). steps_left n < steps_left x) c.self.view_is fewer_left)
 
+held_lent : (g : Over) (c : After-leave g) → c.deref-2.result.now ≡ c.advance-progress.new.held.items
+held_lent g c = search rules
+
 pub returns-clause-goes : goal.returns-clause-goes
 returns-clause-goes g c =
     let task = c.in-Some.task in
@@ -139,7 +146,12 @@ returns-clause-goes g c =
       regions = subst (λ (x : DeviceState). c.take_progress-hint.new.machines.items ≡ regions_after x.shape x.regions task p.result) c.self.view_is (c.take_progress-hint.ensures.regions d.shape);
       same = subst (λ (x : DeviceState). IsSame x.store p.new.store) c.self.view_is p.ensures.same;
       counts = c.after-counts.ensures ∙ ap (λ (x : DeviceState). counted x.counts p.result) c.self.view_is;
-      calls = subst (λ (x : DeviceState). CountsStep x.store p.new.store task p.result) c.self.view_is p.ensures.calls;
+      lists = subst (λ (x : DeviceState). c.step_list.new.lists ≡ lists_stepped x.lists task x.held p.result) c.self.view_is
+          (c.step_list.ensures.lists ∙ (ap (λ (h : List ℕ). lists_stepped d.lists task h p.result) (held_lent g c) ∙ stepped_same d.lists task d.held p.new.held.items p.result p.ensures.over));
+      entries = subst (λ (x : DeviceState). ServesEntry (next_entry x.lists task) x.store task p.result) c.self.view_is
+          (subst (λ (o : Option ℕ). ServesEntry o d.store task p.result) c.next_entry-entry.ensures p.ensures.entries);
+      calls = subst (λ (x : DeviceState). CountsStep x.store p.new.store (next_entry x.lists task) task p.result) c.self.view_is
+          (subst (λ (o : Option ℕ). CountsStep d.store p.new.store o task p.result) c.next_entry-entry.ensures p.ensures.calls);
     })
   where
     apart : Scanning ≡ Ready → ⊥
@@ -160,3 +172,28 @@ take_progress-hint-requires g c =
       record { lun = ok.accepted.lun; served = ok.accepted.served },
       progress_within s.shape s.luns lim s.store p.new.store s.held.items p.new.held.items task p.result p.new.out c.self.invariant.luns_served c.self.invariant.units_served advances,
     )
+
+pub next_entry-entry-requires : goal.next_entry-entry-requires
+next_entry-entry-requires g c =
+    let s = c.self.inside in
+    let task = c.in-Some.task in
+    let first : s.tasks.items ≡ task ∷ drop 1 s.tasks.items = first_of s.tasks.items task (search rules) in
+    (s.luns, limits_of s.shape, (subst (IsQueue s.luns (limits_of s.shape) s.held.items) first c.self.invariant.queue).0, c.self.invariant.all_lists)
+
+pub step_list-requires-clause-task : goal.step_list-requires-clause-task
+step_list-requires-clause-task g c =
+    let s = c.self.inside in
+    let task = c.in-Some.task in
+    let first : s.tasks.items ≡ task ∷ drop 1 s.tasks.items = first_of s.tasks.items task (search rules) in
+    (s.luns, limits_of s.shape, (subst (IsQueue s.luns (limits_of s.shape) s.held.items) first c.self.invariant.queue).0, c.self.invariant.all_lists)
+
+pub step_list-requires-clause-few : goal.step_list-requires-clause-few
+step_list-requires-clause-few g c =
+    let s = c.self.inside in
+    let task = c.in-Some.task in
+    let p = c.advance-progress in
+    let first : s.tasks.items ≡ task ∷ drop 1 s.tasks.items = first_of s.tasks.items task (search rules) in
+    let queue = subst (IsQueue s.luns (limits_of s.shape) s.held.items) first c.self.invariant.queue in
+    let lent : c.deref-2.result.now ≡ p.new.held.items = search rules in
+    subst (λ (h : List ℕ). WhereOver p.result (length h ≤ bytes_taken task.command)) (sym lent)
+    (over_short s.luns (limits_of s.shape) s.held.items p.new.held.items task p.result queue.0 queue.1 p.ensures.over)

@@ -29,6 +29,7 @@ use Rattle.flat_unit.specs.History.{History}
 use Rattle.hpb_device.specs.declared.device.Sent.TheVariants.{Nothing, Upiu}
 use Rattle.hpb_device.specs.Listed.{ListingStands}
 use Rattle.hpb_device.specs.Regions.{HintsStand}
+use Rattle.hpb_device.proofs.Fetching.{answered_lists, lists_still, queue_in}
 use Rattle.hpb_device.proofs.Hinting.{answered_hints, hints_along}
 use Rattle.hpb_device.proofs.StepStands.{sizes_same}
 use Rattle.flat_unit.specs.declared.event.Event.TheVariants.{Host, Device}
@@ -54,6 +55,7 @@ invariant_of-self g c =
       served = c.self.invariant.served;
       whole = c.self.invariant.whole;
       shapes = c.self.invariant.shapes;
+      all_lists = c.self.invariant.all_lists;
       queue = rw pushed (queue_more s.luns (limits_of s.shape) s.tasks.items s.held.items task c.self.invariant.queue waits);
       burst = c.self.invariant.burst;
       unbegun = λ other. let none = c.self.invariant.unbegun other in (none.0, rw pushed (waiting_all s.luns (limits_of s.shape) s.tasks.items task none.1 waits));
@@ -62,7 +64,7 @@ invariant_of-self g c =
 pub returns-in-Keep-clause-stands : goal.returns-in-Keep-clause-stands
 returns-in-Keep-clause-stands g c = λ first e at.
     let s = c.self.inside in
-    let d : DeviceState = record { store = s.store; shape = s.shape; regions = s.regions.items; tasks = s.tasks.items; held = s.held.items; counts = s.counts } in
+    let d : DeviceState = record { store = s.store; shape = s.shape; regions = s.regions.items; lists = s.lists; tasks = s.tasks.items; held = s.held.items; counts = s.counts } in
     let lent : c.deref.result.now ≡ d.tasks = search rules in
     let before : DeviceStands d first e = subst (λ (x : DeviceState). DeviceStands x first e) (sym c.self.view_is) at in
     let kept = follows_at d c.limits_of-limits.result s.luns c.deref.result.now c.args.bytes.now (Keep c.in-Keep.task) c.limits_of-limits.ensures c.self.invariant.luns_served lent c.in-Keep.ensures.follows in
@@ -73,7 +75,7 @@ returns-in-Keep-clause-stands g c = λ first e at.
 pub returns-in-Keep-clause-foreign : goal.returns-in-Keep-clause-foreign
 returns-in-Keep-clause-foreign g c = λ chip first e at.
     let s = c.self.inside in
-    let d : DeviceState = record { store = s.store; shape = s.shape; regions = s.regions.items; tasks = s.tasks.items; held = s.held.items; counts = s.counts } in
+    let d : DeviceState = record { store = s.store; shape = s.shape; regions = s.regions.items; lists = s.lists; tasks = s.tasks.items; held = s.held.items; counts = s.counts } in
     let lent : c.deref.result.now ≡ d.tasks = search rules in
     let before : DeviceStandsForeign d chip first e = subst (λ (x : DeviceState). DeviceStandsForeign x chip first e) (sym c.self.view_is) at in
     let kept = follows_at d c.limits_of-limits.result s.luns c.deref.result.now c.args.bytes.now (Keep c.in-Keep.task) c.limits_of-limits.ensures c.self.invariant.luns_served lent c.in-Keep.ensures.follows in
@@ -91,7 +93,7 @@ take_data-requires g c =
 pub returns-in-Data-clause-stands : goal.returns-in-Data-clause-stands
 returns-in-Data-clause-stands g c = λ first e at.
     let s = c.self.inside in
-    let d : DeviceState = record { store = s.store; shape = s.shape; regions = s.regions.items; tasks = s.tasks.items; held = s.held.items; counts = s.counts } in
+    let d : DeviceState = record { store = s.store; shape = s.shape; regions = s.regions.items; lists = s.lists; tasks = s.tasks.items; held = s.held.items; counts = s.counts } in
     let lent : c.deref.result.now ≡ d.tasks = search rules in
     let segment = c.in-Data.segment.now in
     let before : DeviceStands d first e = subst (λ (x : DeviceState). DeviceStands x first e) (sym c.self.view_is) at in
@@ -104,14 +106,14 @@ returns-in-Data-clause-stands g c = λ first e at.
     let now = stands_with_data d task others c.args.bytes.now segment first e is queue.1.part taken before in
     let same = device_is d c.take_data.new.self (record task { come = task.come + length segment } ∷ others) (d.held ++ segment)
     (c.take_data.ensures.store ∙ ap (λ (x : DeviceState). x.store) (sym c.self.view_is)) (c.take_data.ensures.shape ∙ ap (λ (x : DeviceState). x.shape) (sym c.self.view_is))
-    (c.take_data.ensures.regions ∙ ap (λ (x : DeviceState). x.regions) (sym c.self.view_is)) data_taken.kept (data_taken.held ∙ ap (λ (x : DeviceState). x.held ++ segment) (sym c.self.view_is))
+    (c.take_data.ensures.regions ∙ ap (λ (x : DeviceState). x.regions) (sym c.self.view_is)) (c.take_data.ensures.lists ∙ ap (λ (x : DeviceState). x.lists) (sym c.self.view_is)) data_taken.kept (data_taken.held ∙ ap (λ (x : DeviceState). x.held ++ segment) (sym c.self.view_is))
     (c.take_data.ensures.counts ∙ ap (λ (x : DeviceState). x.counts) (sym c.self.view_is)) in
     stands_same _ _ _ _ same now
 
 pub returns-in-Data-clause-foreign : goal.returns-in-Data-clause-foreign
 returns-in-Data-clause-foreign g c = λ chip first e at.
     let s = c.self.inside in
-    let d : DeviceState = record { store = s.store; shape = s.shape; regions = s.regions.items; tasks = s.tasks.items; held = s.held.items; counts = s.counts } in
+    let d : DeviceState = record { store = s.store; shape = s.shape; regions = s.regions.items; lists = s.lists; tasks = s.tasks.items; held = s.held.items; counts = s.counts } in
     let lent : c.deref.result.now ≡ d.tasks = search rules in
     let segment = c.in-Data.segment.now in
     let before : DeviceStandsForeign d chip first e = subst (λ (x : DeviceState). DeviceStandsForeign x chip first e) (sym c.self.view_is) at in
@@ -124,14 +126,14 @@ returns-in-Data-clause-foreign g c = λ chip first e at.
     let now = foreign_with_data d task others c.args.bytes.now segment chip first e is queue.1.part taken before in
     let same = device_is d c.take_data.new.self (record task { come = task.come + length segment } ∷ others) (d.held ++ segment)
     (c.take_data.ensures.store ∙ ap (λ (x : DeviceState). x.store) (sym c.self.view_is)) (c.take_data.ensures.shape ∙ ap (λ (x : DeviceState). x.shape) (sym c.self.view_is))
-    (c.take_data.ensures.regions ∙ ap (λ (x : DeviceState). x.regions) (sym c.self.view_is)) data_taken.kept (data_taken.held ∙ ap (λ (x : DeviceState). x.held ++ segment) (sym c.self.view_is))
+    (c.take_data.ensures.regions ∙ ap (λ (x : DeviceState). x.regions) (sym c.self.view_is)) (c.take_data.ensures.lists ∙ ap (λ (x : DeviceState). x.lists) (sym c.self.view_is)) data_taken.kept (data_taken.held ∙ ap (λ (x : DeviceState). x.held ++ segment) (sym c.self.view_is))
     (c.take_data.ensures.counts ∙ ap (λ (x : DeviceState). x.counts) (sym c.self.view_is)) in
     foreign_same _ _ _ _ _ same now
 
 pub returns-in-Answer-clause-stands : goal.returns-in-Answer-clause-stands
 returns-in-Answer-clause-stands g c = λ first e at.
     let s = c.self.inside in
-    let d : DeviceState = record { store = s.store; shape = s.shape; regions = s.regions.items; tasks = s.tasks.items; held = s.held.items; counts = s.counts } in
+    let d : DeviceState = record { store = s.store; shape = s.shape; regions = s.regions.items; lists = s.lists; tasks = s.tasks.items; held = s.held.items; counts = s.counts } in
     let lent : c.deref.result.now ≡ d.tasks = search rules in
     let before : DeviceStands d first e = subst (λ (x : DeviceState). DeviceStands x first e) (sym c.self.view_is) at in
     let answered = follows_at d c.limits_of-limits.result s.luns c.deref.result.now c.args.bytes.now (Answer c.in-Answer.reply) c.limits_of-limits.ensures c.self.invariant.luns_served lent c.in-Answer.ensures.follows in
@@ -141,7 +143,7 @@ returns-in-Answer-clause-stands g c = λ first e at.
 pub returns-in-Answer-clause-foreign : goal.returns-in-Answer-clause-foreign
 returns-in-Answer-clause-foreign g c = λ chip first e at.
     let s = c.self.inside in
-    let d : DeviceState = record { store = s.store; shape = s.shape; regions = s.regions.items; tasks = s.tasks.items; held = s.held.items; counts = s.counts } in
+    let d : DeviceState = record { store = s.store; shape = s.shape; regions = s.regions.items; lists = s.lists; tasks = s.tasks.items; held = s.held.items; counts = s.counts } in
     let lent : c.deref.result.now ≡ d.tasks = search rules in
     let before : DeviceStandsForeign d chip first e = subst (λ (x : DeviceState). DeviceStandsForeign x chip first e) (sym c.self.view_is) at in
     let answered = follows_at d c.limits_of-limits.result s.luns c.deref.result.now c.args.bytes.now (Answer c.in-Answer.reply) c.limits_of-limits.ensures c.self.invariant.luns_served lent c.in-Answer.ensures.follows in
@@ -151,7 +153,7 @@ returns-in-Answer-clause-foreign g c = λ chip first e at.
 pub returns-in-Answer-clause-answers : goal.returns-in-Answer-clause-answers
 returns-in-Answer-clause-answers g c = λ tasks keeps.
     let s = c.self.inside in
-    let d : DeviceState = record { store = s.store; shape = s.shape; regions = s.regions.items; tasks = s.tasks.items; held = s.held.items; counts = s.counts } in
+    let d : DeviceState = record { store = s.store; shape = s.shape; regions = s.regions.items; lists = s.lists; tasks = s.tasks.items; held = s.held.items; counts = s.counts } in
     let lent : c.deref.result.now ≡ d.tasks = search rules in
     let before : KeepsTasks d.tasks d.held tasks = subst (λ (x : DeviceState). KeepsTasks x.tasks x.held tasks) (sym c.self.view_is) keeps in
     let answered = follows_at d c.limits_of-limits.result s.luns c.deref.result.now c.args.bytes.now (Answer c.in-Answer.reply) c.limits_of-limits.ensures c.self.invariant.luns_served lent c.in-Answer.ensures.follows tasks before in
@@ -161,7 +163,7 @@ returns-in-Answer-clause-answers g c = λ tasks keeps.
 pub returns-in-Keep-clause-receives : goal.returns-in-Keep-clause-receives
 returns-in-Keep-clause-receives g c =
     let s = c.self.inside in
-    let d : DeviceState = record { store = s.store; shape = s.shape; regions = s.regions.items; tasks = s.tasks.items; held = s.held.items; counts = s.counts } in
+    let d : DeviceState = record { store = s.store; shape = s.shape; regions = s.regions.items; lists = s.lists; tasks = s.tasks.items; held = s.held.items; counts = s.counts } in
     let lent : c.deref.result.now ≡ d.tasks = search rules in
     let task = c.in-Keep.task in
     let pushed : c.push.new.self.items ≡ d.tasks ++ task ∷ [] = c.push.ensures.items in
@@ -169,7 +171,7 @@ returns-in-Keep-clause-receives g c =
     subst (λ (lim : Limits). IsBegun lim d.store.luns (upiu_at c.args.bytes.now) task) c.limits_of-limits.ensures
     (subst (λ (luns : ℕ). IsBegun c.limits_of-limits.result luns (upiu_at c.args.bytes.now) task) (sym c.self.invariant.luns_served) c.in-Keep.ensures.verdict.1) in
     let some : 1 ≤ d.store.geometry.pages = let limits = c.self.invariant.served.limits in omega (arith, limits.least_pages) in
-    let now : DeviceState = record { store = s.store; shape = s.shape; regions = s.regions.items; tasks = c.push.new.self.items; held = s.held.items; counts = s.counts } in
+    let now : DeviceState = record { store = s.store; shape = s.shape; regions = s.regions.items; lists = s.lists; tasks = c.push.new.self.items; held = s.held.items; counts = s.counts } in
     let left : steps_left now ≤ steps_left d + bound (sizes_of d) task.command =
     subst (λ (ts : List Task). steps_left (record d { tasks = ts }) ≤ steps_left d + bound (sizes_of d) task.command) (sym pushed) (keeps_left d task some) in
     let keeps : Keeps d now c.args.bytes.now = record { task = task; room = subst (λ (ts : List Task). length ts < 32) lent c.in-Keep.ensures.verdict.0; begun = begun; kept = pushed; held = refl; left = left } in
@@ -177,13 +179,13 @@ returns-in-Keep-clause-receives g c =
 
 -- the device without its head
 abbrev now_of : (g : Over) → After-put_reply-in-End g → DeviceState
-now_of g c = let s = c.self.inside in record { store = s.store; shape = s.shape; regions = s.regions.items; tasks = c.end_head.new.tasks.items; held = c.end_head.new.held.items; counts = s.counts }
+now_of g c = let s = c.self.inside in record { store = s.store; shape = s.shape; regions = s.regions.items; lists = s.lists; tasks = c.end_head.new.tasks.items; held = c.end_head.new.held.items; counts = s.counts }
 
 -- the head has ended
 ends_it : (g : Over) (c : After-put_reply-in-End g) → EndsHead c.args.self.now (now_of g c) c.put_reply-in-End.new.out
 ends_it g c =
     let s = c.self.inside in
-    let d : DeviceState = record { store = s.store; shape = s.shape; regions = s.regions.items; tasks = s.tasks.items; held = s.held.items; counts = s.counts } in
+    let d : DeviceState = record { store = s.store; shape = s.shape; regions = s.regions.items; lists = s.lists; tasks = s.tasks.items; held = s.held.items; counts = s.counts } in
     let lent : c.deref.result.now ≡ d.tasks = search rules in
     let ended = ends d.tasks c.in-End.reply (subst (λ (ts : List Task). EndsFirst ts c.in-End.reply) lent c.in-End.ensures.verdict) in
     let now = now_of g c in
@@ -210,7 +212,7 @@ returns-in-End-clause-receives g c = inr (ends_it g c)
 pub returns-in-End-clause-stands : goal.returns-in-End-clause-stands
 returns-in-End-clause-stands g c = λ first e at.
     let s = c.self.inside in
-    let d : DeviceState = record { store = s.store; shape = s.shape; regions = s.regions.items; tasks = s.tasks.items; held = s.held.items; counts = s.counts } in
+    let d : DeviceState = record { store = s.store; shape = s.shape; regions = s.regions.items; lists = s.lists; tasks = s.tasks.items; held = s.held.items; counts = s.counts } in
     let lent : c.deref.result.now ≡ d.tasks = search rules in
     let before : DeviceStands d first e = subst (λ (x : DeviceState). DeviceStands x first e) (sym c.self.view_is) at in
     let ended = ends d.tasks c.in-End.reply (subst (λ (ts : List Task). EndsFirst ts c.in-End.reply) lent c.in-End.ensures.verdict) in
@@ -227,7 +229,7 @@ returns-in-End-clause-stands g c = λ first e at.
 pub returns-in-End-clause-foreign : goal.returns-in-End-clause-foreign
 returns-in-End-clause-foreign g c = λ chip first e at.
     let s = c.self.inside in
-    let d : DeviceState = record { store = s.store; shape = s.shape; regions = s.regions.items; tasks = s.tasks.items; held = s.held.items; counts = s.counts } in
+    let d : DeviceState = record { store = s.store; shape = s.shape; regions = s.regions.items; lists = s.lists; tasks = s.tasks.items; held = s.held.items; counts = s.counts } in
     let lent : c.deref.result.now ≡ d.tasks = search rules in
     let before : DeviceStandsForeign d chip first e = subst (λ (x : DeviceState). DeviceStandsForeign x chip first e) (sym c.self.view_is) at in
     let ended = ends d.tasks c.in-End.reply (subst (λ (ts : List Task). EndsFirst ts c.in-End.reply) lent c.in-End.ensures.verdict) in
@@ -244,7 +246,7 @@ returns-in-End-clause-foreign g c = λ chip first e at.
 pub returns-in-End-clause-answers : goal.returns-in-End-clause-answers
 returns-in-End-clause-answers g c = λ tasks keeps.
     let s = c.self.inside in
-    let d : DeviceState = record { store = s.store; shape = s.shape; regions = s.regions.items; tasks = s.tasks.items; held = s.held.items; counts = s.counts } in
+    let d : DeviceState = record { store = s.store; shape = s.shape; regions = s.regions.items; lists = s.lists; tasks = s.tasks.items; held = s.held.items; counts = s.counts } in
     let lent : c.deref.result.now ≡ d.tasks = search rules in
     let before : KeepsTasks d.tasks d.held tasks = subst (λ (x : DeviceState). KeepsTasks x.tasks x.held tasks) (sym c.self.view_is) keeps in
     let answers = follows_at d c.limits_of-limits.result s.luns c.deref.result.now c.args.bytes.now (End c.in-End.reply) c.limits_of-limits.ensures c.self.invariant.luns_served lent c.in-End.ensures.follows tasks before in
@@ -266,12 +268,12 @@ pub returns-in-Keep-clause-entries : goal.returns-in-Keep-clause-entries
 returns-in-Keep-clause-entries g c = λ e stand.
     let store = ap (λ (x : DeviceState). x.store) c.self.view_is in
     let shape = ap (λ (x : DeviceState). x.shape) c.self.view_is in
-    kept_entries c.args.self.now _ c.args.bytes.now e (returns-in-Keep-clause-receives g c) store shape stand
+    kept_entries c.args.self.now _ c.args.bytes.now e (returns-in-Keep-clause-receives g c) store shape (ap (λ (x : DeviceState). x.lists) c.self.view_is) stand
 
 pub returns-in-Answer-clause-listings : goal.returns-in-Answer-clause-listings
 returns-in-Answer-clause-listings g c = λ had pages first e at stand.
     let s = c.self.inside in
-    let d : DeviceState = record { store = s.store; shape = s.shape; regions = s.regions.items; tasks = s.tasks.items; held = s.held.items; counts = s.counts } in
+    let d : DeviceState = record { store = s.store; shape = s.shape; regions = s.regions.items; lists = s.lists; tasks = s.tasks.items; held = s.held.items; counts = s.counts } in
     let lent : c.deref.result.now ≡ d.tasks = search rules in
     let before : DeviceStands d first e = subst (λ (x : DeviceState). DeviceStands x first e) (sym c.self.view_is) at in
     let answered = follows_at d c.limits_of-limits.result s.luns c.deref.result.now c.args.bytes.now (Answer c.in-Answer.reply) c.limits_of-limits.ensures c.self.invariant.luns_served lent c.in-Answer.ensures.follows in
@@ -305,7 +307,7 @@ hints_still d now e store shape regions stand =
 pub returns-in-Keep-clause-hints : goal.returns-in-Keep-clause-hints
 returns-in-Keep-clause-hints g c = λ e keeps stand.
     let s = c.self.inside in
-    let d : DeviceState = record { store = s.store; shape = s.shape; regions = s.regions.items; tasks = s.tasks.items; held = s.held.items; counts = s.counts } in
+    let d : DeviceState = record { store = s.store; shape = s.shape; regions = s.regions.items; lists = s.lists; tasks = s.tasks.items; held = s.held.items; counts = s.counts } in
     let lent : c.deref.result.now ≡ d.tasks = search rules in
     let answers : (tasks : List Waiting) → KeepsTasks c.args.self.now.tasks c.args.self.now.held tasks → answers_to (sizes_of c.args.self.now) true tasks c.args.bytes.now ≡ [] =
     λ tasks keeps_tasks.
@@ -319,7 +321,7 @@ returns-in-Keep-clause-hints g c = λ e keeps stand.
 pub returns-in-Data-clause-hints : goal.returns-in-Data-clause-hints
 returns-in-Data-clause-hints g c = λ e keeps stand.
     let s = c.self.inside in
-    let d : DeviceState = record { store = s.store; shape = s.shape; regions = s.regions.items; tasks = s.tasks.items; held = s.held.items; counts = s.counts } in
+    let d : DeviceState = record { store = s.store; shape = s.shape; regions = s.regions.items; lists = s.lists; tasks = s.tasks.items; held = s.held.items; counts = s.counts } in
     let lent : c.deref.result.now ≡ d.tasks = search rules in
     let answers : (tasks : List Waiting) → KeepsTasks c.args.self.now.tasks c.args.self.now.held tasks → answers_to (sizes_of c.args.self.now) true tasks c.args.bytes.now ≡ [] =
     λ tasks keeps_tasks.
@@ -340,6 +342,49 @@ returns-in-End-clause-hints g c = λ e keeps stand.
     (ap (λ (x : DeviceState). x.regions) is)
     (answered_hints c.args.self.now c.args.bytes.now Upiu c.put_reply-in-End.new.out e keeps (returns-in-End-clause-answers g c) stand)
 
+pub returns-in-Keep-clause-fetched : goal.returns-in-Keep-clause-fetched
+returns-in-Keep-clause-fetched g c = λ e keeps stand.
+    let s = c.self.inside in
+    let d : DeviceState = record { store = s.store; shape = s.shape; regions = s.regions.items; lists = s.lists; tasks = s.tasks.items; held = s.held.items; counts = s.counts } in
+    let lent : c.deref.result.now ≡ d.tasks = search rules in
+    let answers : (tasks : List Waiting) → KeepsTasks c.args.self.now.tasks c.args.self.now.held tasks → answers_to (sizes_of c.args.self.now) true tasks c.args.bytes.now ≡ [] =
+    λ tasks keeps_tasks.
+    let before : KeepsTasks d.tasks d.held tasks = subst (λ (x : DeviceState). KeepsTasks x.tasks x.held tasks) (sym c.self.view_is) keeps_tasks in
+    let kept = follows_at d c.limits_of-limits.result s.luns c.deref.result.now c.args.bytes.now (Keep c.in-Keep.task) c.limits_of-limits.ensures c.self.invariant.luns_served lent c.in-Keep.ensures.follows tasks before in
+    answers_same _ _ _ _ _ c.self.view_is (owes_nothing (sizes_of d) tasks c.args.bytes.now kept.silent) in
+    let is = c.self.view_is in
+    let now : DeviceState = record { store = s.store; shape = s.shape; regions = s.regions.items; lists = s.lists; tasks = c.push.new.self.items; held = s.held.items; counts = s.counts } in
+    lists_still c.args.self.now now (e ▹ Host c.args.bytes.now) (ap (λ (x : DeviceState). x.store) is) (ap (λ (x : DeviceState). x.shape) is) (ap (λ (x : DeviceState). x.lists) is)
+    (answered_lists c.args.self.now c.args.bytes.now Nothing [] e (queue_in d c.args.self.now c.self.inside.luns _ c.self.view_is c.self.invariant) keeps answers stand)
+
+pub returns-in-Data-clause-fetched : goal.returns-in-Data-clause-fetched
+returns-in-Data-clause-fetched g c = λ e keeps stand.
+    let s = c.self.inside in
+    let d : DeviceState = record { store = s.store; shape = s.shape; regions = s.regions.items; lists = s.lists; tasks = s.tasks.items; held = s.held.items; counts = s.counts } in
+    let lent : c.deref.result.now ≡ d.tasks = search rules in
+    let answers : (tasks : List Waiting) → KeepsTasks c.args.self.now.tasks c.args.self.now.held tasks → answers_to (sizes_of c.args.self.now) true tasks c.args.bytes.now ≡ [] =
+    λ tasks keeps_tasks.
+    let before : KeepsTasks d.tasks d.held tasks = subst (λ (x : DeviceState). KeepsTasks x.tasks x.held tasks) (sym c.self.view_is) keeps_tasks in
+    let kept = follows_at d c.limits_of-limits.result s.luns c.deref.result.now c.args.bytes.now (Data c.in-Data.segment) c.limits_of-limits.ensures c.self.invariant.luns_served lent c.in-Data.ensures.follows tasks before in
+    answers_same _ _ _ _ _ c.self.view_is (owes_nothing (sizes_of d) tasks c.args.bytes.now kept.silent) in
+    lists_still c.args.self.now c.take_data.new.self (e ▹ Host c.args.bytes.now) c.take_data.ensures.store c.take_data.ensures.shape c.take_data.ensures.lists
+    (answered_lists c.args.self.now c.args.bytes.now Nothing [] e (queue_in d c.args.self.now c.self.inside.luns _ c.self.view_is c.self.invariant) keeps answers stand)
+
+pub returns-in-Answer-clause-fetched : goal.returns-in-Answer-clause-fetched
+returns-in-Answer-clause-fetched g c = λ e keeps stand.
+    let s = c.self.inside in
+    let d : DeviceState = record { store = s.store; shape = s.shape; regions = s.regions.items; lists = s.lists; tasks = s.tasks.items; held = s.held.items; counts = s.counts } in
+    answered_lists c.args.self.now c.args.bytes.now Upiu c.put_reply.new.out e (queue_in d c.args.self.now c.self.inside.luns _ c.self.view_is c.self.invariant) keeps (returns-in-Answer-clause-answers g c) stand
+
+pub returns-in-End-clause-fetched : goal.returns-in-End-clause-fetched
+returns-in-End-clause-fetched g c = λ e keeps stand.
+    let s = c.self.inside in
+    let d : DeviceState = record { store = s.store; shape = s.shape; regions = s.regions.items; lists = s.lists; tasks = s.tasks.items; held = s.held.items; counts = s.counts } in
+    let is = c.self.view_is in
+    lists_still c.args.self.now (now_of g c) (e ▹ Host c.args.bytes.now ▹ Device c.put_reply-in-End.new.out) (ap (λ (x : DeviceState). x.store) is) (ap (λ (x : DeviceState). x.shape) is)
+    (ap (λ (x : DeviceState). x.lists) is)
+    (answered_lists c.args.self.now c.args.bytes.now Upiu c.put_reply-in-End.new.out e (queue_in d c.args.self.now c.self.inside.luns _ c.self.view_is c.self.invariant) keeps (returns-in-End-clause-answers g c) stand)
+
 pub returns-in-Keep-clause-counted : goal.returns-in-Keep-clause-counted
 returns-in-Keep-clause-counted g c = λ first e at stand.
     let store = ap (λ (x : DeviceState). x.store) c.self.view_is in
@@ -350,7 +395,7 @@ returns-in-Keep-clause-counted g c = λ first e at stand.
 pub returns-in-Answer-clause-counted : goal.returns-in-Answer-clause-counted
 returns-in-Answer-clause-counted g c = λ first e at stand.
     let s = c.self.inside in
-    let d : DeviceState = record { store = s.store; shape = s.shape; regions = s.regions.items; tasks = s.tasks.items; held = s.held.items; counts = s.counts } in
+    let d : DeviceState = record { store = s.store; shape = s.shape; regions = s.regions.items; lists = s.lists; tasks = s.tasks.items; held = s.held.items; counts = s.counts } in
     let lent : c.deref.result.now ≡ d.tasks = search rules in
     let before : DeviceStands d first e = subst (λ (x : DeviceState). DeviceStands x first e) (sym c.self.view_is) at in
     let answers : (tasks : List Waiting) → KeepsTasks d.tasks d.held tasks → reply_of (sizes_of d) true tasks c.args.bytes.now ≡ Some (reply_upiu c.in-Answer.reply) =
@@ -362,7 +407,7 @@ returns-in-Answer-clause-counted g c = λ first e at stand.
 pub returns-in-End-clause-counted : goal.returns-in-End-clause-counted
 returns-in-End-clause-counted g c = λ first e at stand.
     let s = c.self.inside in
-    let d : DeviceState = record { store = s.store; shape = s.shape; regions = s.regions.items; tasks = s.tasks.items; held = s.held.items; counts = s.counts } in
+    let d : DeviceState = record { store = s.store; shape = s.shape; regions = s.regions.items; lists = s.lists; tasks = s.tasks.items; held = s.held.items; counts = s.counts } in
     let lent : c.deref.result.now ≡ d.tasks = search rules in
     let before : DeviceStands d first e = subst (λ (x : DeviceState). DeviceStands x first e) (sym c.self.view_is) at in
     let ends : EndsHead d (now_of g c) c.put_reply-in-End.new.out = subst (λ (x : DeviceState). EndsHead x (now_of g c) c.put_reply-in-End.new.out) (sym c.self.view_is) (ends_it g c) in

@@ -2,8 +2,10 @@ use Rattle.std.proofs.Common.{◌≡◌, ◌<◌, [], None, arith, rules, refl, 
 use Rattle.flash_store.specs.declared.answers.Phase.TheVariants.{Foreign, Scanning}
 use Rattle.flash_store.specs.Store.{IsStanding}
 use Rattle.hpb_device.specs.Calls.{Refuses}
+use Rattle.hpb_device.specs.Lists.{lists_unread}
 use Rattle.hpb_device.specs.Left.{steps_left, wait_of}
 use Rattle.hpb_device.specs.Limits.{limits_of}
+use Rattle.hpb_device.specs.Task.{IsQueue}
 use Rattle.hpb_device.specs.State.{DeviceState}
 use Rattle.hpb_device.proofs.Leaving.{on_false}
 use Rattle.hpb_device.proofs.Left.{unread_fewer, wait_most}
@@ -14,10 +16,10 @@ use Rattle.hpb_device.proofs.device.Device.refuse_head.Goals as goal
 
 -- the device before the step, and after it
 abbrev before : (g : Over) → After-end_unread g → DeviceState
-before g c = let s = c.self.inside in record { store = s.store; shape = s.shape; regions = s.regions.items; tasks = s.tasks.items; held = s.held.items; counts = s.counts }
+before g c = let s = c.self.inside in record { store = s.store; shape = s.shape; regions = s.regions.items; lists = s.lists; tasks = s.tasks.items; held = s.held.items; counts = s.counts }
 
 abbrev after : (g : Over) → After-end_unread g → DeviceState
-after g c = record (before g c) { tasks = c.end_unread.new.tasks.items; held = c.end_unread.new.held.items; counts = c.stepped-self-inside.result }
+after g c = record (before g c) { lists = c.unread_list.new.lists; tasks = c.end_unread.new.tasks.items; held = c.end_unread.new.held.items; counts = c.stepped-self-inside.result }
 
 is_foreign : (g : Over) (c : After-end_unread g) → (before g c).store.phase ≡ Foreign
 is_foreign g c = ap (λ (x : DeviceState). x.store.phase) c.self.view_is ∙ c.requires.foreign
@@ -29,7 +31,9 @@ returns-clause-refuses g c =
     let stands : IsStanding d.store = subst (λ (x : DeviceState). IsStanding x.store) (sym c.self.view_is) c.requires.stands in
     let unready = unready_of d (well_of d c.self.inside.luns _ c.self.invariant stands) (not_foreign d.store.phase (is_foreign g c)) in
     let read = stands.scanned (λ is. absurd (apart (sym is ∙ is_foreign g c))) in
+    let lent : c.deref.result.now ≡ d.tasks = search rules in
     let refuses : Refuses d n c.end_unread.result c.end_unread.new.out = record {
+      lists = c.unread_list.ensures.lists ∙ ap (lists_unread d.lists) lent;
       foreign = stands.foreign (is_foreign g c);
       scanned = omega (arith, read);
       waiting = unready.waiting;
@@ -54,3 +58,14 @@ returns-clause-fewer g c =
     c.end_unread.ensures.ends task_kept in
     let fewer : steps_left n < steps_left d = omega (arith, less) in
     on_false c.end_unread.result.idle (subst (λ (x : DeviceState). steps_left n < steps_left x) c.self.view_is fewer)
+
+pub unread_list-requires : goal.unread_list-requires
+unread_list-requires g c =
+    let s = c.self.inside in
+    let lent : c.deref.result.now ≡ s.tasks.items = search rules in (
+      s.luns,
+      limits_of s.shape,
+      s.held.items,
+      subst (IsQueue s.luns (limits_of s.shape) s.held.items) (sym lent) c.self.invariant.queue,
+      c.self.invariant.all_lists,
+    )

@@ -1,0 +1,4 @@
+pub mod Machine
+pub mod Effects
+pub mod Own
+pub mod Ways

@@ -25,10 +25,10 @@ const TEXT_BYTES: usize = 512;
 const HEADER_DIGITS: usize = 64;
 
 /// The text of a UPIU, as far as it is built.
-type Text = ArrayVec<u8, TEXT_BYTES>;
+pub(crate) type Text = ArrayVec<u8, TEXT_BYTES>;
 
 /// Adds a text.
-fn push(part: &[u8], text: &mut Text)
+pub(crate) fn push(part: &[u8], text: &mut Text)
     requires { length text.old.items + length part.now ≤ 512 }
     ensures { text.new.items ≡ text.old.items ++ part.now }
 {
@@ -56,7 +56,7 @@ fn push_named(name: &[u8], number: u64, text: &mut Text)
 }
 
 /// Adds a byte as two hex digits.
-fn push_byte(byte: u8, text: &mut Text)
+pub(crate) fn push_byte(byte: u8, text: &mut Text)
     requires { length text.old.items + 2 ≤ 512 }
     ensures text { text.new.items ≡ text.old.items ++ byte_text byte }
     ensures bound { length text.new.items ≡ length text.old.items + 2 }
@@ -67,7 +67,7 @@ fn push_byte(byte: u8, text: &mut Text)
 }
 
 /// Adds a number below 16 as one hex digit.
-fn push_digit(number: u8, text: &mut Text)
+pub(crate) fn push_digit(number: u8, text: &mut Text)
     requires { length text.old.items + 1 ≤ 512 }
     ensures text { text.new.items ≡ text.old.items ++ digit_text number }
     ensures bound { length text.new.items ≡ length text.old.items + 1 }

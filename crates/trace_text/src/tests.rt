@@ -6,6 +6,7 @@ use super::*;
 use flash_pages::ChipOp;
 use flat_unit::{Bytes, Event};
 use hpb_outside::{Failed, MemSource, Source};
+use hpb_sense::FixedSense;
 use std::alloc::Global;
 use std::process::Abort;
 use std::test::Fail;
@@ -39,6 +40,80 @@ fn lines_of_a_trace(rt: HostRuntime) -> Result<(), Fail> {
         assert_eq!(rt; parse(rt.alloc(), text)?, line, "{text}");
     }
     Ok(())
+}
+
+#[test]
+fn lines_of_a_drive(rt: HostRuntime) {
+    let write = |seed| DriveLine::Write { lba: 7, n: 1, seed };
+    for (text, line) in [
+        ("", Some(DriveLine::Blank)),
+        ("# read", Some(DriveLine::Blank)),
+        ("read 1 2", Some(DriveLine::Read { lba: 1, n: 2 })),
+        ("read 0 255", Some(DriveLine::Read { lba: 0, n: 255 })),
+        ("read 0 256", None),
+        ("read 000012 000", Some(DriveLine::Read { lba: 12, n: 0 })),
+        ("read 1", None),
+        ("read 1 ", None),
+        ("read 1 2 3", None),
+        ("read 1 2 ", None),
+        ("read  1 2", None),
+        ("read 1  2", None),
+        ("read1 2", None),
+        ("read 0000001 2", None),
+        ("write 7 1 999999", Some(write(999_999))),
+        ("write 7 1 1000000", None),
+        ("write 7 256 0", None),
+        ("write 7 1", None),
+        ("write 7 1 2 3", None),
+        ("steps 012", Some(DriveLine::Steps(12))),
+        ("steps -1", None),
+        ("steps", None),
+        ("collect 999999", Some(DriveLine::Collect(999_999))),
+        ("collect 1 ", None),
+        ("drain", Some(DriveLine::Drain)),
+        ("DRAIN", None),
+        ("drain\r", None),
+        (" drain", None),
+        ("drain 1", None),
+        ("reset", Some(DriveLine::Reset)),
+        ("lun 0", Some(DriveLine::Lun(0))),
+        ("lun 7", Some(DriveLine::Lun(7))),
+        ("lun 8", None),
+        ("lun 07", None),
+        ("lun ", None),
+        (" ", None),
+        ("R", None),
+    ] {
+        assert_eq!(rt; parse_drive(text.as_bytes()), line, "{text}");
+    }
+}
+
+#[test]
+fn lines_of_endings(rt: HostRuntime) {
+    let sense = FixedSense {
+        key: 5,
+        asc: 0x2A,
+        ascq: 0x0F,
+    };
+    for (number, ending, text) in [
+        (0, Ending::Good, "A 0 good\n"),
+        (12, Ending::Check(sense), "A 12 check 5 2a 0f\n"),
+        (3, Ending::Status(0x28), "A 3 status 28\n"),
+        (4, Ending::Cut, "A 4 cut\n"),
+        (u32::MAX, Ending::Range, "A 4294967295 range\n"),
+    ] {
+        let mut out = [b'.'; 32];
+        let count = put_ending(number, ending, &mut out);
+        assert_eq!(rt; &out[..count], text.as_bytes());
+    }
+}
+
+#[test]
+fn line_of_a_block(rt: HostRuntime) {
+    let mut out = [b'.'; 22];
+    let count = put_block(70, &[0x00, 0xAB, 0x10], &mut out);
+    assert_eq!(rt; count, 12);
+    assert_eq!(rt; out.as_slice(), b"B 70 00ab10\n..........".as_slice());
 }
 
 /// Writes an event over dots.

@@ -1,0 +1,12 @@
+pub mod Turns
+pub mod Asking
+pub mod Ending
+pub mod Plain
+pub mod Lists
+pub mod Caching
+pub mod Wanting
+pub mod Staying
+pub mod Whole
+pub mod Passing
+pub mod Earlier
+pub mod Telling

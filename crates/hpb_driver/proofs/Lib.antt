@@ -1,3 +1,4 @@
 pub mod Opened
 pub mod Nothing
 pub mod Empty
+pub mod Fewer

@@ -1,5 +1,7 @@
 -- What a driver needs, and what its calls answer.
-use Rattle.std.specs.Prelude.{◌≡◌, ◌≤◌, ◌<◌, ℕ, ◌+◌, ◌*◌, Bool, true, false, ◌&&◌, length, nat_le, nat_lt}
+use Rattle.std.specs.Prelude.{◌≡◌, ◌≤◌, ◌<◌, ℕ, ◌+◌, ◌-◌, ◌*◌, Bool, true, false, ◌&&◌, List, [], ◌∷◌, length}
+use Rattle.std.specs.Prelude.{if◌then◌else◌, nat_le, nat_lt}
+use Rattle.driver_laws.specs.Commands.{OpenCommand}
 use Rattle.hpb_outside.specs.declared.NewFault.{NewFault}
 use Rattle.hpb_outside.specs.declared.NewFault.TheVariants.{Geometry, Memory}
 use Rattle.region_state.specs.declared.shape.Shape.{Shape}
@@ -61,3 +63,17 @@ pub record IsSubmitted (tag : ℕ) (m : Machine) (request : Request) (now : Mach
   pub inside : is_inside m request ≡ true
   pub leads : now ≡ submit request m
   pub last : tag ≡ last_tag now.opens
+
+-- how much a command has to send yet: its COMMAND, and the bytes that were asked for and not given
+abbrev pub waits : OpenCommand → ℕ
+waits o = (if o.out then 0 else 1) + (o.asked - o.given)
+
+-- the same of all commands
+abbrev pub all_wait : List OpenCommand → ℕ
+all_wait [] = 0
+all_wait (o ∷ os) = waits o + all_wait os
+
+-- how often a driver sends at most before it hears of the device again: for each command that may be opened yet, and for
+-- those that are open
+abbrev pub to_send : Machine → ℕ
+to_send m = (32 - length m.opens) + all_wait m.opens

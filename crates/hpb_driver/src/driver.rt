@@ -141,7 +141,7 @@ impl Driver {
     ghost use Rattle.driver_commands.specs.Open.{gets, gives};
     ghost use Rattle.driver_laws.specs.Commands.{opened};
     ghost use Rattle.driver_caches.specs.Machine.{tell};
-    ghost use Rattle.hpb_driver.specs.State.{HasBytes, IsNewFault, IsSubmitFault, IsSubmitted, has_blocks, is_inside};
+    ghost use Rattle.hpb_driver.specs.State.{HasBytes, IsNewFault, IsSubmitFault, IsSubmitted, has_blocks, is_inside, to_send};
 
     /// A driver of `luns` logical units, each of this shape. A plain one has no caches: it ignores hints, and sends
     /// no entries and no command of its own. All memory is taken here but that of requests: room for 32 open
@@ -420,6 +420,7 @@ impl Driver {
     pub fn next_upiu(&mut self, out: &mut UpiuBuf) -> bool
         ensures new { self.new ≡ with_next (sizes_of self.old.shape) self.old }
         ensures sent { IsSent (next_upiu (sizes_of self.old.shape) self.old) result out.old out.new }
+        ensures fewer { IsTrue result → to_send self.new < to_send self.old }
     {
         self.add_own();
         send_next(&mut self.commands, limits_of(self.shape), out)

@@ -22,7 +22,7 @@ use Rattle.driver_laws.specs.Laws.{Numbered, numbered, under_number}
 use Rattle.driver_caches.specs.Machine.{Machine, next_upiu, with_next}
 use Rattle.trace_text.specs.declared.drive.DriveLine.{DriveLine}
 use Rattle.trace_text.specs.declared.drive.DriveLine.TheVariants.{Read, Write, Steps, Collect, Drain, Reset as ResetBoth, Lun, Blank}
-use Rattle.drive_rules.specs.Lines.{DrainsTo, Drive, DriveSteps, Drives, DrivesLines, Exchanges, FreesTags, Passes, Requests}
+use Rattle.drive_rules.specs.Lines.{CollectsTo, DrainsTo, Drive, DriveSteps, Drives, DrivesLines, Exchanges, FreesTags, Passes, Requests}
 use Rattle.drive_rules.specs.Lines.{are_there, drive_begun, handed, happened, held_back, moment_of, pattern_bytes, requested, sent, sent_times, stepped_by}
 use Rattle.drive_rules.specs.FlatLines.{one_outside, one_request, outside_of, requests_of}
 
@@ -57,7 +57,7 @@ asked_happened s d Cleared = refl
 asked_happened s d (Switched on) = refl
 asked_happened s d (Gone tag) = refl
 
-asked_events : (s : Sizes) (xs : List Event) (d : Drive) → so_far (fold (happened s) d xs) ≡ so_far d
+pub asked_events : (s : Sizes) (xs : List Event) (d : Drive) → so_far (fold (happened s) d xs) ≡ so_far d
 asked_events s [] d = refl
 asked_events s (x ∷ xs) d = asked_events s xs (happened s d x) ∙ asked_happened s d x
 
@@ -65,7 +65,7 @@ asked_handed : (s : Sizes) (v : Option Upiu) (d : Drive) → so_far (handed s v 
 asked_handed s None d = refl
 asked_handed s (Some v) d = asked_events s (answers_to s (on_after d.progress.events) (tasks_at s d.progress) (upiu_out v)) (happened s d (Host (upiu_out v)))
 
-asked_sent : (s : Sizes) (d : Drive) → so_far (sent s d) ≡ so_far d
+pub asked_sent : (s : Sizes) (d : Drive) → so_far (sent s d) ≡ so_far d
 asked_sent s d = asked_handed s (next_upiu s d.machine) (record d { machine = with_next s d.machine })
 
 asked_times : (s : Sizes) (n : ℕ) (d : Drive) → so_far (sent_times s n d) ≡ so_far d
@@ -155,6 +155,10 @@ after_request s there request lines x y is =
     ∙ ap (λ (os : List ℕ). record { requests = x.requests ++ one_request there (x.count + 1) request (requests_of s x.lun (x.count + 1) lines); outside = os })
     (out_then there (x.count + 1) x.outside (outside_of s x.lun (x.count + 1) lines))
 
+asked_collected : (s : Sizes) (n : ℕ) (d now : Drive) → CollectsTo s n d now → so_far now ≡ so_far d
+asked_collected s zero d now is = ap so_far is
+asked_collected s (suc n) d now (mid, calls, one) = ap so_far one.leads ∙ asked_events s one.group mid ∙ asked_collected s n d mid calls
+
 pub asked_lines : (s : Sizes) (lines : List DriveLine) (d now : Drive) → DrivesLines s lines d now → all_asked (so_far now) ≡ all_asked (asked_by s lines (so_far d))
 asked_lines s [] d now is =
     ap (λ (x : Drive). all_asked (so_far x)) is
@@ -169,7 +173,7 @@ asked_lines s (Write lba n seed ∷ lines) d now (mid, one, rest) =
     (asked_request s (are_there s d.lun lba n) (WriteOf d.lun lba n (pattern_bytes s seed lba n)) d mid one)
 asked_lines s (Steps n ∷ lines) d now (mid, one, rest) = asked_lines s lines mid now rest ∙ ap (λ (x : Requested). all_asked (asked_by s lines x)) (asked_steps s n d mid one)
 asked_lines s (Collect n ∷ lines) d now (mid, one, rest) =
-    asked_lines s lines mid now rest ∙ ap (λ (x : Requested). all_asked (asked_by s lines x)) (ap so_far one.leads ∙ asked_events s one.group d)
+    asked_lines s lines mid now rest ∙ ap (λ (x : Requested). all_asked (asked_by s lines x)) (asked_collected s n d mid one)
 asked_lines s (Drain ∷ lines) d now (mid, one, rest) = asked_lines s lines mid now rest ∙ ap (λ (x : Requested). all_asked (asked_by s lines x)) (asked_drain s d mid one)
 asked_lines s (ResetBoth ∷ lines) d now (mid, one, rest) = asked_lines s lines mid now rest ∙ ap (λ (x : Drive). all_asked (asked_by s lines (so_far x))) one
 asked_lines s (Lun k ∷ lines) d now (mid, one, rest) = asked_lines s lines mid now rest ∙ ap (λ (x : Drive). all_asked (asked_by s lines (so_far x))) one

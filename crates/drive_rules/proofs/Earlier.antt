@@ -17,7 +17,7 @@ use Rattle.driver_laws.proofs.Turning.{gets_events}
 use Rattle.driver_caches.specs.Machine.{next_upiu, with_next}
 use Rattle.trace_text.specs.declared.drive.DriveLine.{DriveLine}
 use Rattle.trace_text.specs.declared.drive.DriveLine.TheVariants.{Read, Write, Steps, Collect, Drain, Reset, Lun, Blank}
-use Rattle.drive_rules.specs.Lines.{CollectsTo, DrainsTo, Drive, DriveLineTo, DriveStep, DriveSteps, DrivesLines, Exchanges, FreesTags, Passes, Requests}
+use Rattle.drive_rules.specs.Lines.{CollectCall, CollectsTo, DrainsTo, Drive, DriveLineTo, DriveStep, DriveSteps, DrivesLines, Exchanges, FreesTags, Passes, Requests}
 use Rattle.drive_rules.specs.Lines.{handed, happened, held_back, moment_of, requested, sent, sent_times, stepped_by}
 
 -- the events so far are sound
@@ -88,8 +88,12 @@ sound_free s u there request d now r sound = sound_requested s u there request r
 pub sound_request : (s : Sizes) (u : List Block) (there : Bool) (request : Request) (d now : Drive) → Requests s there request d now → IsSoundAt s u now → IsSoundAt s u d
 sound_request s u there request d now r sound = sound_freed s u d r.free r.frees (sound_free s u there request d now r sound)
 
+pub sound_call : (s : Sizes) (u : List Block) (d now : Drive) → CollectCall s d now → IsSoundAt s u now → IsSoundAt s u d
+sound_call s u d now c sound = sound_before s u d.progress.events c.group (subst (IsSoundAt s u) c.leads sound)
+
 pub sound_collected : (s : Sizes) (u : List Block) (n : ℕ) (d now : Drive) → CollectsTo s n d now → IsSoundAt s u now → IsSoundAt s u d
-sound_collected s u n d now c sound = sound_before s u d.progress.events c.group (subst (IsSoundAt s u) c.leads sound)
+sound_collected s u zero d now is sound = subst (IsSoundAt s u) is sound
+sound_collected s u (suc n) d now (mid, calls, one) sound = sound_collected s u n d mid calls (sound_call s u mid now one sound)
 
 -- and each line
 pub sound_line : (s : Sizes) (u : List Block) (line : DriveLine) (d now : Drive) → DriveLineTo s line d now → IsSoundAt s u now → IsSoundAt s u d

@@ -21,7 +21,7 @@ use Rattle.driver_laws.specs.Flat.{Answered, Asked, Cut}
 use Rattle.driver_caches.specs.Machine.{Machine, next_upiu, with_next}
 use Rattle.trace_text.specs.declared.drive.DriveLine.{DriveLine}
 use Rattle.trace_text.specs.declared.drive.DriveLine.TheVariants.{Read, Write, Steps, Collect, Drain, Reset, Lun, Blank}
-use Rattle.drive_rules.specs.Lines.{CollectsTo, DrainsTo, Drive, DriveLineTo, DriveSteps, Drives, DrivesLines, Exchanges, FreesTags, Passes, Requests}
+use Rattle.drive_rules.specs.Lines.{CollectCall, CollectsTo, DrainsTo, Drive, DriveLineTo, DriveSteps, Drives, DrivesLines, Exchanges, FreesTags, Passes, Requests}
 use Rattle.drive_rules.specs.Lines.{drive_begun, handed, happened, held_back, moment_of, requested, reset_both, sent, sent_times, stepped_by}
 use Rattle.drive_rules.specs.Said.{Ended, Happened, Said, answers_in, events_in, outside_in, with_answer, with_cut, with_delivered, with_done}
 use Rattle.drive_rules.specs.Told.{IsTold}
@@ -136,9 +136,13 @@ told_request : (s : Sizes) (there : Bool) (request : Request) (d now : Drive) �
 told_request s there request d now r told = told_exchange s (requested there request r.free) now r.exchange (told_requested there request r.free (told_freed s d r.free r.frees told))
 
 -- calls of the collector
+pub told_call : (s : Sizes) (d now : Drive) → CollectCall s d now → IsTold d → IsTold now
+told_call s d now c told =
+    subst IsTold (sym c.leads) (told_again (fold (happened s) d c.group) (collected_to 1 c.group d.progress) (sym (events_folded s c.group d)) (told_events s c.group d told))
+
 pub told_collected : (s : Sizes) (n : ℕ) (d now : Drive) → CollectsTo s n d now → IsTold d → IsTold now
-told_collected s n d now c told =
-    subst IsTold (sym c.leads) (told_again (fold (happened s) d c.group) (collected_to n c.group d.progress) (sym (events_folded s c.group d)) (told_events s c.group d told))
+told_collected s zero d now is told = subst IsTold (sym is) told
+told_collected s (suc n) d now (mid, calls, one) told = told_call s mid now one (told_collected s n d mid calls told)
 
 -- a reset says each request that it cuts
 cut_said : (callers : List Asked) (said : List Said) → (events_in (with_cut callers said) ≡ events_in said) × (outside_in (with_cut callers said) ≡ outside_in said)

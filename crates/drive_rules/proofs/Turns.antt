@@ -34,7 +34,8 @@ use Rattle.driver_caches.specs.Machine.{entry_at, is_nothing, Machine, Own, deli
 use Rattle.driver_caches.specs.Machine.{wanted_from, way_by_cache, way_of, with_delivered, with_evicted, with_next, with_own, with_picked, with_wanted}
 use Rattle.trace_text.specs.declared.drive.DriveLine.{DriveLine}
 use Rattle.trace_text.specs.declared.drive.DriveLine.TheVariants.{Read, Write, Steps, Collect, Drain, Reset, Lun, Blank}
-use Rattle.drive_rules.specs.Lines.{AreBytes, CollectsTo, DrainsTo, Drive, DriveLineTo, DriveStep, DriveSteps, Drives, DrivesLines, Exchanges, FreesTags, Passes, Requests, SendsBytes}
+use Rattle.drive_rules.specs.Said.{with_sent}
+use Rattle.drive_rules.specs.Lines.{AreBytes, CollectsTo, collected_by, DrainsTo, Drive, DriveLineTo, DriveStep, DriveSteps, Drives, DrivesLines, Exchanges, FreesTags, Passes, Requests, SendsBytes}
 use Rattle.drive_rules.specs.Lines.{are_there, drive_begun, handed, happened, held_back, moment_of, pattern, pattern_block, pattern_bytes, requested, reset_both, sent, sent_times, stepped_by}
 use Rattle.drive_rules.specs.Tame.{IsLed, IsTame, StaysTame}
 use Rattle.drive_rules.proofs.Caching.{and_both}
@@ -157,10 +158,15 @@ own_opened s m tame = by_may (may_send_own m) refl
 record HandsQuietly (s : Sizes) (v : Option Upiu) (d : Drive) : Type 0 where
   machine : (handed s v d).machine ≡ d.machine
   moment : moment_of (handed s v d) ≡ record (moment_of d) { events = sent_events d.progress.events v }
+  said : (handed s v d).said ≡ with_sent v d.said
 
 hands_quietly : (s : Sizes) (v : Option Upiu) (d : Drive) → owed s (sent_events d.progress.events v) ≡ [] → HandsQuietly s v d
-hands_quietly s None d none = record { machine = refl; moment = refl }
-hands_quietly s (Some v) d none = record { machine = ap (λ (xs : List Event). (after xs).machine) none; moment = ap moment none }
+hands_quietly s None d none = record { machine = refl; moment = refl; said = refl }
+hands_quietly s (Some v) d none = record {
+  machine = ap (λ (xs : List Event). (after xs).machine) none;
+  moment = ap moment none;
+  said = ap (λ (xs : List Event). (after xs).said) none;
+}
   where
     after : List Event → Drive
     after xs = fold (happened s) (happened s d (Host (upiu_out v))) xs
@@ -176,6 +182,7 @@ about_to_send d = record (moment_of d) { opens = (with_own d.machine).opens }
 pub record SendsQuietly (s : Sizes) (d : Drive) : Type 0 where
   pub machine : (sent s d).machine ≡ with_next s d.machine
   pub moment : moment_of (sent s d) ≡ sends s (about_to_send d)
+  pub said : (sent s d).said ≡ with_sent (next_upiu s d.machine) d.said
 
 sends_after : (s : Sizes) (u : List Block) (turns : List Turn) (d : Drive) → Serves s → MayLead s turns → IsSoundAt s u d → about_to_send d ≡ moment_after s turns → SendsQuietly s d
 sends_after s u turns d serves may sound is =
@@ -183,7 +190,7 @@ sends_after s u turns d serves may sound is =
     let here : Fits s (with_own d.machine).opens d.progress.events = subst (λ (m : Moment). Fits s m.opens m.events) (sym is) fits in
     let q : HandsQuietly s (next_upiu s d.machine) (record d { machine = with_next s d.machine }) =
     hands_quietly s (next_upiu s d.machine) (record d { machine = with_next s d.machine }) (sends_fit s (with_own d.machine).opens d.progress.events serves here).nothing_owed in
-    record { machine = q.machine; moment = q.moment }
+    record { machine = q.machine; moment = q.moment; said = q.said }
 
 -- the turns after which it sends
 record AboutToSend (s : Sizes) (d : Drive) : Type 0 where
@@ -376,10 +383,13 @@ led_collected s P (Failed op ∷ xs) d all led = led_collected s P xs (happened 
 led_collected s P (x ∷ xs) d all led = absurd (all 0 x (omega arith))
 
 -- calls of the collector
+pub led_call : (s : Sizes) (P : Machine → Type 0) (group : List Event) (d : Drive) → All IsCollection group → IsLed s P d → IsLed s P (collected_by s group d)
+led_call s P group d all led = led_again s P (fold (happened s) d group) (collected_to 1 group d.progress) (sym (events_folded s group d)) (led_collected s P group d all led)
+
 pub led_collect : (s : Sizes) (P : Machine → Type 0) (n : ℕ) (d now : Drive) → CollectsTo s n d now → IsLed s P d → IsLed s P now
-led_collect s P n d now c led =
-    subst (IsLed s P) (sym c.leads)
-    (led_again s P (fold (happened s) d c.group) (collected_to n c.group d.progress) (sym (events_folded s c.group d)) (led_collected s P c.group d c.collection led))
+led_collect s P zero d now is led = subst (IsLed s P) (sym is) led
+led_collect s P (suc n) d now (mid, calls, one) led =
+    subst (IsLed s P) (sym one.leads) (led_call s P one.group mid one.collection (led_collect s P n d mid calls led))
 
 -- each line
 pub led_line : (s : Sizes) (u : List Block) (P : Machine → Type 0) (line : DriveLine) (d now : Drive) → Serves s → StaysTame s P → DriveLineTo s line d now → IsSoundAt s u now → IsLed s P d

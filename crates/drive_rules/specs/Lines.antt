@@ -186,12 +186,21 @@ pub record Requests (s : Sizes) (there : Bool) (request : Request) (d now : Driv
   pub frees : FreesTags s d free
   pub exchange : Exchanges s (requested there request free) now
 
--- so many calls of the collector
-pub record CollectsTo (s : Sizes) (n : ℕ) (d now : Drive) : Type 0 where
+-- a call of the collector, of which the driver hears nothing
+abbrev pub collected_by : Sizes → List Event → Drive → Drive
+collected_by s group d = record (fold (happened s) d group) { progress = collected_to 1 group d.progress }
+
+-- it moves a block, or fails, or does neither
+pub record CollectCall (s : Sizes) (d now : Drive) : Type 0 where
   pub group : List Event
-  pub few : length group ≤ n
+  pub few : length group ≤ 1
   pub collection : All IsCollection group
-  pub leads : now ≡ record (fold (happened s) d group) { progress = collected_to n group d.progress }
+  pub leads : now ≡ collected_by s group d
+
+-- so many of them
+abbrev pub CollectsTo : Sizes → ℕ → Drive → Drive → Type 0
+CollectsTo s zero d now = now ≡ d
+CollectsTo s (suc n) d now = (mid : Drive) × CollectsTo s n d mid × CollectCall s mid now
 
 -- the device is reset, then the driver, which cuts the requests that are open
 abbrev pub reset_both : Drive → Drive

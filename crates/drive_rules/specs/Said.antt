@@ -1,7 +1,9 @@
 -- What a drive says, in order: the events of the device, and how each request ended (this project's own).
 use Rattle.std.specs.Prelude.{ℕ, List, [], ◌∷◌, ◌++◌, Option, Some, None, Result, Ok, Err}
 use Rattle.std.specs.List.{find}
+use Rattle.upiu_wire.specs.Upiu.{Upiu, upiu_out}
 use Rattle.flat_unit.specs.declared.event.Event.{Event}
+use Rattle.flat_unit.specs.declared.event.Event.TheVariants.{Host}
 use Rattle.flat_unit.specs.History.{History}
 use Rattle.driver_laws.specs.declared.answer.Done.{Done}
 use Rattle.driver_laws.specs.declared.fault.DriverFault.{DriverFault}
@@ -15,7 +17,12 @@ pub data Said : Type 0 where
   Ended : Asked → Outcome → Said
   Outside : ℕ → Said
 
--- a request got its answer, where its caller waits; the newest stands first
+-- the driver sent this, if it sent something; the newest stands first
+abbrev pub with_sent : Option Upiu → List Said → List Said
+with_sent (Some v) said = Happened (Host (upiu_out v)) ∷ said
+with_sent None said = said
+
+-- a request got its answer, where its caller waits
 abbrev pub with_answer : Done → Option Asked → List Said → List Said
 with_answer done (Some a) said = Ended a (Came done.answer) ∷ said
 with_answer done None said = said

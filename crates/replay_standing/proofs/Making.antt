@@ -27,7 +27,8 @@ drains_fewer count most old new r going fewer few = elim fewer [
 abbrev pub LacksBeside : ℕ → DeviceState → OpenRun → Type 0
 LacksBeside count now run = ¬ AtRest now → count + steps_left now ≤ run.lacks
 
-pub lacks_beside : (old new : DeviceState) (r : Stepped) (out : List ℕ) (run : OpenRun) (count next : ℕ) → next ≡ suc count → Stepping old new r out → LacksBeside count old run → LacksBeside next new run
+pub lacks_beside : (old new : DeviceState) (r : Stepped) (out : List ℕ) (run : OpenRun) (count next : ℕ) → next ≡ suc count → Stepping old new r out
+    → LacksBeside count old run → LacksBeside next new run
 lacks_beside old new r out run count next counted step enough going = elim step.fewer [
   | inl less ↦ let few = enough (going_before old new r out step going) in omega (arith, few, less, counted)
   | inr none ↦ absurd (going_before old new r out step going (no_task_rests old none.0))

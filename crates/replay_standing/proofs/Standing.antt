@@ -28,7 +28,8 @@ use Rattle.hpb_device.proofs.Silence.{going_was_silent, tries_has_entry, tries_w
 use Rattle.hpb_device.specs.Keeps.{KeepsTasks}
 use Rattle.hpb_device.specs.Standing.{DeviceStands, DeviceStandsForeign, first_of, group_of, sizes_of}
 use Rattle.hpb_device.specs.State.{DeviceState, AreAtRest, AtRest, IsIdleIn, IsSound}
-use Rattle.hpb_device.proofs.Going.{going_counts_step, going_fails, going_group, going_is_silent, going_keeps_no_write, going_rests, going_same, going_scanned, going_scans, going_serves, going_sizes, going_stays_ready, going_steps_counted, going_tasks, going_unready, going_unscanned, keeps_no_write, no_task_rests, refusing_goes, refusing_sends}
+use Rattle.hpb_device.proofs.Going.{going_counts_step, going_fails, going_group, going_is_silent, going_keeps_no_write, going_rests, going_same, going_scanned}
+use Rattle.hpb_device.proofs.Going.{going_scans, going_serves, going_sizes, going_stays_ready, going_steps_counted, going_tasks, going_unready, going_unscanned, keeps_no_write, no_task_rests, refusing_goes, refusing_sends}
 use Rattle.hpb_device.proofs.Left.{few_kept}
 use Rattle.hpb_device.specs.Counted.{CountsStand}
 use Rattle.hpb_device.specs.Entries.{EntriesStand}
@@ -261,7 +262,8 @@ tried_before start old m at tried is = by_tried m.tried refl is
     by_tried false was is = inl (due_scanned start old m at is)
 
 -- on another chip no step that is due is silent
-never_tried : (start old new : DeviceState) (m : Progress) (r : Stepped) (out : List ℕ) → Standing start old m → Stepping old new r out → ForeignStanding start old m → (after_step start m r out).tried ≡ false
+never_tried : (start old new : DeviceState) (m : Progress) (r : Stepped) (out : List ℕ) → Standing start old m → Stepping old new r out → ForeignStanding start old m
+    → (after_step start m r out).tried ≡ false
 never_tried start old new m r out at step foreign = by_sent (group_of r out).sent refl
   where
     by_due : (b : Bool) → is_due (sizes_of start) m ≡ b → (group_of r out).sent ≡ None → (m.tried || b) ≡ false
@@ -286,7 +288,8 @@ stays_ready start old new m r out at step served = by_served m.served refl serve
         let sent = bytes_of_step r out bytes sends in
         going_stays_ready old new r out step.steps (going_serves old.store.phase old new r out step.steps sent.0 (λ code. other (ap sense_code (sym sent.1) ∙ code)))
 
-step_own : (start old new : DeviceState) (m : Progress) (r : Stepped) (out : List ℕ) → Standing start old m → Stepping old new r out → OwnStanding start old m → OwnStanding start new (after_step start m r out)
+step_own : (start old new : DeviceState) (m : Progress) (r : Stepped) (out : List ℕ) → Standing start old m → Stepping old new r out → OwnStanding start old m
+    → OwnStanding start new (after_step start m r out)
 step_own start old new m r out at step own = record {
   was = own.was;
   stands = step.stands (first_of start) m.events own.stands;
@@ -307,7 +310,8 @@ step_foreign start old new m r out at step foreign =
           let sent = bytes_of_step r out bytes sends in
           ap sense_code (sym sent.1) ∙ going_unready old.store.phase old new r out step.steps here.unsound sent.0)
           (record { unready = foreign.unready; nothing_owed = subst (λ (s : Sizes). Rattle.flat_unit.specs.Sound.owed s m.events ≡ []) at.sizes here.stands.sound.nothing_owed });
-      counted = stepped_alone (sizes_of start) m.events r.failed (group_of r out).moved (group_of r out).sent old.counts new.counts (going_counts_step old.store.phase old new r out step.steps here.unsound) foreign.counted;
+      counted = stepped_alone (sizes_of start) m.events r.failed (group_of r out).moved (group_of r out).sent old.counts new.counts
+          (going_counts_step old.store.phase old new r out step.steps here.unsound) foreign.counted;
       untried = never_tried start old new m r out at step foreign;
     }
 

@@ -2,7 +2,8 @@
 use Rattle.std.specs.Prelude.{◌≡◌, ℕ, ◌≤◌, List, [], length, All}
 use Rattle.flat_unit.specs.declared.event.Event.{Event}
 use Rattle.flat_unit.specs.Queue.{on_after}
-use Rattle.flat_unit.specs.Replays.{Progress, Group, IsGroup, IsTimely, IsCollection, collected_to, received, stepped, tasks_at, without_writes}
+use Rattle.flat_unit.specs.Replays.{Progress, Group, IsGroup, IsTimely, IsCollection, collected_to, received, stepped}
+use Rattle.flat_unit.specs.Replays.{tasks_at, without_writes}
 use Rattle.flat_unit.specs.Sound.{answers_to}
 use Rattle.hpb_device.specs.Standing.{sizes_of}
 use Rattle.hpb_device.specs.State.{DeviceState}
@@ -19,8 +20,8 @@ pub record HasReceived (start now : DeviceState) (p : Progress) (bytes : List �
   pub answers : answers_to (sizes_of start) (on_after p.events) (tasks_at (sizes_of start) p) bytes ≡ answer
   pub standing : Standing start now (received (sizes_of start) p bytes)
 
--- a call of the collector made these events, one at most, and the device stands at the moment after it; the runs that began with a
--- write end, and where there is no run, nothing ends
+-- a call of the collector made these events, one at most, and the device stands at the moment after it; the runs that
+-- began with a write end, and where there is no run, nothing ends
 pub record HasCalled (start now : DeviceState) (p : Progress) (group : List Event) : Type 0 where
   pub few : length group ≤ 1
   pub collection : All IsCollection group

@@ -29,7 +29,8 @@ pub record LacksEnough (now : DeviceState) (run : OpenRun) : Type 0 where
 abbrev pub pages_in : DeviceState → ℕ
 pages_in device = device.store.geometry.blocks * device.store.geometry.pages
 
--- after so many calls of the collector on a ready chip so many fewer are left at most; where none is, there is nothing to collect
+-- after so many calls of the collector on a ready chip so many fewer are left at most; where none is, there is nothing
+-- to collect
 pub record HasCollected (now : DeviceState) (count : ℕ) : Type 0 where
   pub fewer : (count + uncollected_in now ≤ 2 * now.store.geometry.pages * pages_in now) ⊎ (uncollected_in now ≡ 0)
   pub over : uncollected_in now ≡ 0 → HasNoMore now.store.geometry now.store.pages
@@ -70,4 +71,5 @@ pub record Standing (start now : DeviceState) (p : Progress) : Type 0 where
 -- the counts of a device that began so, at the end of a trace
 abbrev pub AreCountsOf : DeviceState → Progress → Counts → Type 0
 AreCountsOf start =
-    AreCounts (sizes_of start) (pages_in start) start.store.geometry.pages (erased_count start.store.pages) (IsSound start)
+    AreCounts (sizes_of start) (pages_in start) start.store.geometry.pages (erased_count start.store.pages)
+    (IsSound start)

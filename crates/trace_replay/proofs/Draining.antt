@@ -1,19 +1,21 @@
 -- A drain steps until nothing can go on without the host.
-use Rattle.std.proofs.Common.{◌≡◌, ℕ, suc, ◌+◌, ◌≤◌, List, [], ◌++◌, Option, refl, ◌∙◌, ap, arith, inl, inr}
+use Rattle.std.proofs.Common.{◌≡◌, ℕ, suc, ◌+◌, ◌≤◌, List, [], ◌++◌, Option, refl, ◌∙◌, ap, arith}
 use Rattle.std.specs.Prelude.{flat_map}
 use Rattle.flat_unit.specs.Print.{print, line_of}
 use Rattle.flat_unit.specs.Queue.{at_rest}
 use Rattle.flat_unit.specs.Replays.{Progress, StepsTo, LineTo, enough, events_of, tasks_at, without_runs}
 use Rattle.flat_unit.specs.Trace.{Drain}
 use Rattle.hpb_device.specs.declared.device.Stepped.{Stepped}
-use Rattle.hpb_device.specs.Calls.{LeavesFewer}
 use Rattle.hpb_device.specs.Left.{steps_left}
 use Rattle.hpb_device.specs.Standing.{group_of, sizes_of}
 use Rattle.hpb_device.specs.State.{DeviceState, AtRest}
-use Rattle.hpb_device.proofs.Going.{no_task_rests, resting_tasks}
-use Rattle.trace_replay.specs.Moments.{Standing, Leads, Cuts, CutLineTo}
+use Rattle.hpb_device.proofs.Going.{resting_tasks}
+use Rattle.replay_standing.specs.Standing.{Standing}
+use Rattle.trace_replay.specs.Moments.{Leads, Cuts, CutLineTo}
 use Rattle.trace_replay.specs.Writes.{AppendsFront, HasWrittenUpTo}
-use Rattle.trace_replay.proofs.Standing.{Stepping, after_step, events_gathered, few_steps, step_leads, step_standing, tracked, with_runs}
+use Rattle.replay_standing.proofs.Standing.{Stepping, after_step, few_steps, step_leads, step_standing, tracked, with_runs}
+use Rattle.trace_replay.proofs.Gathered.{events_gathered}
+use Rattle.replay_standing.proofs.Making.{drains_fewer}
 
 -- so many steps of a drain were made
 pub record Draining (start now : DeviceState) (before written : Option (List ℕ)) (gathered : List ℕ) (p : Progress) : Type 0 where
@@ -47,12 +49,6 @@ draining_written start now before w written gathered gathered_now p so_far print
   standing = so_far.standing;
   printed = printed;
 }
-
-drains_fewer : (count most : ℕ) (old new : DeviceState) (r : Stepped) → (AtRest old → ⊥) → LeavesFewer old new r → count + steps_left old ≤ most → suc count + steps_left new ≤ most
-drains_fewer count most old new r going fewer few = elim fewer [
-  | inl less ↦ omega (arith, few, less)
-  | inr none ↦ absurd (going (no_task_rests old none.0))
-]
 
 -- one more step, whose lines are gathered
 pub draining_goes_on : (start old new : DeviceState) (before w : Option (List ℕ)) (gathered gathered_now : List ℕ) (p : Progress) (r : Stepped) (out : List ℕ)

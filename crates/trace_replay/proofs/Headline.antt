@@ -16,7 +16,7 @@ use Rattle.hpb_device.specs.declared.counts.Counts.{Counts}
 use Rattle.flash_pages.specs.Chip.{Page}
 use Rattle.trace_replay.specs.Run.{IsCutShort, IsPlanned, ProgramIs, RunIs, SinkEnds, SourceEnds, bad_line_text, counts_text, long_text}
 use Rattle.trace_replay.specs.Showing.{ShowIs, ShowProgramIs}
-use Rattle.trace_replay.specs.Transcript.{IsChipOf, IsPlain, IsTranscript, SendsUnready, sizes_on, unit_on}
+use Rattle.replay_standing.specs.Transcript.{IsChipOf, IsPlain, IsTranscript, SendsUnready, sizes_on, unit_on}
 use Rattle.trace_replay.specs.Words.{named_unit}
 use Rattle.trace_replay.specs.declared.status.Status.{Status}
 use Rattle.trace_replay.specs.declared.status.Status.TheVariants.{Done, BadLine, ReadFault, WriteFault, LongTrace, Usage, Memory, Geometry as BadGeometry, ChipFault, BadImage, BadCapture}

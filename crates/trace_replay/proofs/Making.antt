@@ -1,26 +1,23 @@
 -- So many steps are made for a line. Behind the first one where nothing is to be done, no other does anything.
-use Rattle.std.proofs.Common.{◌≡◌, ℕ, zero, suc, ◌+◌, ◌-◌, ◌≤◌, Bool, true, false, not, ◌&&◌, ◌||◌, nat_le, List, [], ◌∷◌, ◌++◌, Option, None, refl, sym, ◌∙◌, ap, subst, arith, inl, inr}
-use Rattle.std.specs.Prelude.{flat_map, map, IsTrue}
+use Rattle.std.proofs.Common.{◌≡◌, ℕ, zero, suc, ◌+◌, ◌-◌, ◌≤◌, List, ◌++◌, Option, refl, sym, subst, arith}
+use Rattle.std.specs.Prelude.{flat_map, IsTrue}
 use Rattle.std.specs.List.{AllByRecursion}
 use Rattle.flat_unit.specs.Print.{print, line_of}
 use Rattle.flat_unit.specs.Queue.{at_rest}
-use Rattle.flat_unit.specs.Replays.{OpenRun, Progress, Group, StepTo, StepsTo, LineTo, events_of, stepped, is_due, lacks_less, tasks_at, with_run}
-use Rattle.flat_unit.specs.Sizes.{Sizes}
+use Rattle.flat_unit.specs.Replays.{OpenRun, Progress, StepTo, StepsTo, LineTo, events_of, lacks_less, tasks_at, with_run}
 use Rattle.flat_unit.specs.Trace.{Steps}
-use Rattle.flat_unit.proofs.History.{idle_step}
 use Rattle.hpb_device.specs.declared.device.Stepped.{Stepped}
-use Rattle.hpb_device.specs.Left.{steps_left, unscanned}
+use Rattle.hpb_device.specs.Left.{unscanned}
 use Rattle.hpb_device.specs.Standing.{group_of, sizes_of}
 use Rattle.hpb_device.specs.State.{DeviceState, AtRest}
-use Rattle.hpb_device.proofs.Going.{at_rest_of, no_task_rests, resting_tasks}
+use Rattle.hpb_device.proofs.Going.{at_rest_of}
 use Rattle.hpb_device.proofs.Left.{rest_left}
-use Rattle.trace_replay.specs.Moments.{Standing, LacksEnough, Leads, Cuts, CutLineTo}
+use Rattle.replay_standing.specs.Standing.{Standing, LacksEnough}
+use Rattle.trace_replay.specs.Moments.{Leads, Cuts, CutLineTo}
 use Rattle.trace_replay.specs.Writes.{AppendsFront, HasWrittenUpTo}
-use Rattle.trace_replay.proofs.Standing.{Stepping, after_step, all_weaker, events_gathered, going_before, run_standing, step_leads, step_standing, tracked, with_runs}
-
--- the same after so many calls that the run doesn't count yet
-abbrev pub LacksBeside : ℕ → DeviceState → OpenRun → Type 0
-LacksBeside count now run = ¬ AtRest now → count + steps_left now ≤ run.lacks
+use Rattle.replay_standing.proofs.Standing.{Stepping, after_step, all_weaker, run_standing, step_leads, step_standing, with_runs}
+use Rattle.trace_replay.proofs.Gathered.{events_gathered}
+use Rattle.replay_standing.proofs.Making.{LacksBeside, lacks_beside, after_rest, rests_at, rest_leads, rest_standing, lacks_down}
 
 -- so many steps of a line were made
 pub record Made (start now : DeviceState) (before written : Option (List ℕ)) (gathered : List ℕ) (p : Progress) (count : ℕ) : Type 0 where
@@ -53,12 +50,6 @@ one_more : (start now : DeviceState) (before w : Option (List ℕ)) (gathered : 
 one_more start now before w gathered p next_moment count next is so_far leads =
     subst (λ (n : ℕ). StepsTo (sizes_of start) n (with_run (sizes_of start) p) next_moment) (sym is) (so_far.moment, so_far.steps, leads)
 
-lacks_beside : (old new : DeviceState) (r : Stepped) (out : List ℕ) (run : OpenRun) (count next : ℕ) → next ≡ suc count → Stepping old new r out → LacksBeside count old run → LacksBeside next new run
-lacks_beside old new r out run count next counted step enough going = elim step.fewer [
-  | inl less ↦ let few = enough (going_before old new r out step going) in omega (arith, few, less, counted)
-  | inr none ↦ absurd (going_before old new r out step going (no_task_rests old none.0))
-]
-
 -- one more step, whose lines are gathered
 pub made_goes_on : (start old new : DeviceState) (before w : Option (List ℕ)) (gathered gathered_now : List ℕ) (p : Progress) (r : Stepped) (out : List ℕ) (count next : ℕ) → next ≡ suc count
     → Stepping old new r out → gathered_now ≡ gathered ++ flat_map line_of (events_of (group_of r out)) → Made start old before w gathered p count → Made start new before w gathered_now p next
@@ -70,54 +61,6 @@ made_goes_on start old new before w gathered gathered_now p r out count next cou
   standing = step_standing start old new so_far.moment r out so_far.standing step;
   printed = rw is (events_gathered before w so_far.moment.events (events_of (group_of r out)) gathered so_far.printed);
 }
-
--- a step where nothing is to be done
-abbrev no_group : Group
-no_group = record { failed = None; moved = None; sent = None }
-
-abbrev after_rest : DeviceState → Progress → Progress
-after_rest start m = stepped (sizes_of start) m no_group
-
-rests_at : (start now : DeviceState) (m : Progress) → Standing start now m → AtRest now → at_rest (tasks_at (sizes_of start) m) ≡ true
-rests_at start now m at rests = let t = tracked start now m at in ap at_rest t.kept ∙ resting_tasks now t.tasks t.keeps rests
-
-rest_leads : (start now : DeviceState) (m : Progress) → Standing start now m → AtRest now → StepTo (sizes_of start) m (after_rest start m)
-rest_leads start now m at rests = idle_step (sizes_of start) m no_group (rests_at start now m at rests) refl refl
-
--- a step where nothing is to be done tries nothing
-still_tried : (s : Sizes) (m : Progress) → at_rest (tasks_at s m) ≡ true → (m.tried || is_due s m) ≡ m.tried
-still_tried s m rests = by_due m.tried (is_due s m) (ap (λ (b : Bool). not b && nat_le s.pages m.quiet) rests)
-  where
-    by_due : (a b : Bool) → b ≡ false → (a || b) ≡ a
-    by_due true b none = refl
-    by_due false b none = none
-
-or_false : (b : Bool) → (b || false) ≡ b
-or_false true = refl
-or_false false = refl
-
-rest_standing : (start now : DeviceState) (m : Progress) → AtRest now → unscanned now ≡ 0 → Standing start now m → Standing start now (after_rest start m)
-rest_standing start now m rests looked at =
-    let same = still_tried (sizes_of start) m (rests_at start now m at rests) in
-    record {
-      some_page = at.some_page;
-      sizes = at.sizes;
-      shape = at.shape;
-      same = at.same;
-      faults = at.faults;
-      plain = at.plain;
-      hints = at.hints;
-      fetched = at.fetched;
-      lacking = at.lacking;
-      quiet = omega (arith, at.quiet, looked);
-      steps = omega (arith, at.steps);
-      ready = λ is. at.ready (sym (or_false m.served) ∙ is);
-      collected = λ is some. absurd (omega (arith, some));
-      chip = elim at.chip [
-        | inl own ↦ inl (record { was = own.was; stands = own.stands; entries = own.entries; listings = own.listings; counted = own.counted; tried = λ is. own.tried (sym same ∙ is) })
-        | inr foreign ↦ inr (record { stands = foreign.stands; unready = foreign.unready; counted = foreign.counted; untried = same ∙ foreign.untried })
-      ];
-    }
 
 made_rests : (start now : DeviceState) (before w : Option (List ℕ)) (gathered : List ℕ) (p : Progress) (count : ℕ)
     → AtRest now → unscanned now ≡ 0 → Made start now before w gathered p count → Made start now before w gathered p (suc count)
@@ -146,12 +89,6 @@ pub made_is_cut : (start now : DeviceState) (before w written : Option (List ℕ
     → Cuts (CutLineTo (sizes_of start) (Steps limit) p) start now before written
 made_is_cut start now before w written gathered p count limit below so_far cut =
     record { moment = so_far.moment; reached = (count, below, so_far.steps); standing = so_far.standing; printed = cut }
-
-lacks_down : (now : DeviceState) (count : ℕ) (runs : List OpenRun) → AllByRecursion (LacksBeside count now) runs → AllByRecursion (LacksEnough now) runs
-    → AllByRecursion (LacksEnough now) (map (λ (run : OpenRun). record run { lacks = run.lacks - count }) runs)
-lacks_down now count [] all lacks = tt
-lacks_down now count (run ∷ runs) all lacks =
-    (record { enough = λ going. let few = all.0 going in omega (arith, few); writes = lacks.0.writes }, lacks_down now count runs all.1 lacks.1)
 
 pub made_ends : (start now : DeviceState) (before w : Option (List ℕ)) (gathered : List ℕ) (p : Progress) (count : ℕ) → Made start now before w gathered p count
     → Leads (LineTo (sizes_of start) (Steps count) p) start now before w gathered

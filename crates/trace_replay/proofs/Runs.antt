@@ -4,7 +4,6 @@ use Rattle.std.proofs.lemmas.List.{append_assoc, append-nil, map-append}
 use Rattle.std.specs.Io.KnownBytes.{Appends, Keeps, prepend_known}
 use Rattle.flat_unit.specs.Print.{print}
 use Rattle.flat_unit.specs.Replays.{Progress, LineTo, Replays, begun}
-use Rattle.flat_unit.specs.Sound.{SoundSoFar}
 use Rattle.flat_unit.proofs.contents.ReadsEnd.{drains_end_reads}
 use Rattle.flat_unit.specs.Sizes.{Sizes}
 use Rattle.flat_unit.specs.Trace.{Line}
@@ -12,24 +11,20 @@ use Rattle.flat_unit.proofs.History.{replays_more}
 use Rattle.hpb_device.specs.Counted.{CountsStand}
 use Rattle.hpb_device.specs.Lists.{ListsStand}
 use Rattle.hpb_device.specs.Regions.{HintsStand}
-use Rattle.trace_replay.proofs.Counts.{begins_alone}
 use Rattle.hpb_device.specs.Standing.{first_of, sizes_of}
 use Rattle.hpb_device.specs.declared.counts.Counts.{Counts}
 use Rattle.hpb_device.specs.Counts.{no_counts}
 use Rattle.hpb_device.specs.State.{DeviceState}
-use Rattle.hpb_device.proofs.Entries.{begins_entries}
-use Rattle.hpb_device.proofs.Going.{begins_foreign, begins_standing}
-use Rattle.hpb_device.proofs.Listings.{begins_listings}
-use Rattle.std.proofs.lemmas.Bool.{false≢true}
 use Rattle.trace_text.specs.Grammar.{trace_line}
 use Rattle.trace_text.specs.Lines.{IsLine, TakesLine, EndsAt, WhereTold}
 use Rattle.trace_replay.specs.declared.status.Status.{Status}
 use Rattle.trace_replay.specs.declared.status.Status.TheVariants.{Done, BadLine, ReadFault, WriteFault, LongTrace, Usage, Memory, Geometry, ChipFault, BadImage, BadCapture}
-use Rattle.trace_replay.specs.Moments.{ForeignStanding, OwnStanding, Standing, Leads, Cuts}
+use Rattle.replay_standing.specs.Standing.{Standing}
+use Rattle.trace_replay.specs.Moments.{Leads, Cuts}
 use Rattle.trace_replay.specs.Run.{CountsFault, HasMore, IsBadNext, IsCutNext, IsCutShort, LastIs, Ran, ReadsAhead, RunIs, SinkEnds, SourceEnds, StopsWithinLine, TakesLines, bad_line_text, counts_text, long_text}
 use Rattle.trace_replay.specs.Writes.{AppendsFront, HasWrittenUpTo}
-use Rattle.trace_replay.proofs.Decided.{sound_or_not}
 use Rattle.trace_replay.proofs.Written.{gathers_more, nothing_yet}
+use Rattle.replay_standing.proofs.Beginning.{sound_at, begun_standing}
 
 -- what holds between two lines
 abbrev pub StandsAndPrinted : (start now : DeviceState) (before written : Option (List ℕ)) (gathered : List ℕ) → Progress → Type 0
@@ -39,20 +34,6 @@ pub takes_more : (left : Option (List ℕ)) (texts : List (List ℕ)) (mid now :
     → TakesLines left (texts ++ text ∷ []) now
 takes_more left [] mid now text same line takes = (now, line, subst (λ (from : Option (List ℕ)). WhereTold (TakesLine text) from now) same takes, refl)
 takes_more left (t ∷ texts) mid now text taken line takes = (taken.0, taken.1, taken.2, takes_more taken.0 texts mid now text taken.3 line takes)
-
--- the chip that a device begins with is sound, or it isn't
-begins_chip : (start : DeviceState) → start.tasks ≡ [] → start.counts ≡ no_counts → CountsStand start [] → OwnStanding start start begun ⊎ ForeignStanding start start begun
-begins_chip start none uncounted counted = elim (sound_or_not start.store.geometry start.store.luns start.store.units start.store.pages) [
-  | inl sound ↦ inl (record {
-    was = sound;
-    stands = begins_standing start none (ap (λ (c : Counts). c.erased) uncounted) sound;
-    entries = begins_entries start none;
-    listings = begins_listings start none;
-    counted = counted;
-    tried = λ is. absurd (false≢true is);
-  })
-  | inr unsound ↦ inr (record { stands = λ first. begins_foreign start first none unsound; unready = tt; counted = begins_alone (sizes_of start) start.counts uncounted; untried = refl })
-]
 
 pub ran_begins : (start : DeviceState) (left w : Option (List ℕ)) (gathered : List ℕ) → start.tasks ≡ [] → start.counts ≡ no_counts → HintsStand start [] → ListsStand start [] → CountsStand start [] → start.store.scanned ≡ 0
     → Rattle.std.proofs.Common.◌≤◌ 1 start.store.geometry.pages → gathered ≡ []
@@ -67,33 +48,8 @@ ran_begins start left w gathered none uncounted hints fetched counted scanned so
   counted = refl;
   replays = refl;
   drains = refl;
-  shows = (
-    record {
-      some_page = some;
-      sizes = refl;
-      shape = refl;
-      hints = hints;
-      fetched = fetched;
-      same = record { geometry = refl; luns = refl; units = refl };
-      faults = record { least = omega arith; most = omega arith };
-      plain = record { bytes = tt; short = tt };
-      lacking = tt;
-      quiet = omega (arith, scanned);
-      steps = let none_made : start.counts.steps ≡ 0 = ap (λ (c : Counts). c.steps) uncounted in omega (arith, none_made);
-      ready = λ served. absurd (false≢true served);
-      collected = λ ready more. absurd (omega (arith, more));
-      chip = begins_chip start none uncounted counted;
-    },
-    rw fresh (nothing_yet w []),
-  );
+  shows = (begun_standing start none uncounted hints fetched counted scanned some, rw fresh (nothing_yet w []));
 }
-
--- the events so far are sound
-sound_at : (start now : DeviceState) (p : Progress) → Standing start now p → SoundSoFar (sizes_of start) (first_of start).unit p.events
-sound_at start now p at = subst (λ (s : Sizes). SoundSoFar s (first_of start).unit p.events) at.sizes (elim at.chip [
-  | inl own ↦ own.stands.stands.sound.so_far
-  | inr foreign ↦ (foreign.stands (first_of start)).stands.sound.so_far
-])
 
 pub ran_more : (start old new : DeviceState) (left mid now before w written : Option (List ℕ)) (gathered gathered_now : List ℕ) (n next : ℕ)
     → (ran : Ran (sizes_of start) left mid n (StandsAndPrinted start old before w gathered))

@@ -27,7 +27,7 @@ use Rattle.hpb_device.specs.Standing.{first_of, kept_of, sizes_of}
 use Rattle.hpb_device.specs.declared.counts.Counts.{Counts}
 use Rattle.hpb_device.specs.Advance.{IsSameStore}
 use Rattle.hpb_device.specs.State.{DeviceState, IsSound}
-use Rattle.trace_replay.specs.Moments.{AreCountsOf, ForeignStanding, HasCollected, OwnStanding, Standing, pages_in}
+use Rattle.replay_standing.specs.Standing.{AreCountsOf, ForeignStanding, HasCollected, OwnStanding, Standing, pages_in}
 use Rattle.flash_store.specs.Index.{CanServe}
 use Rattle.region_state.specs.Shape.{IsWithinLimits}
 use Rattle.trace_replay.specs.Options.{cut_shape}
@@ -37,7 +37,7 @@ use Rattle.trace_replay.specs.Showing.{ShowIs, ShowProgramIs}
 use Rattle.flat_unit.specs.Counts.{Counted}
 use Rattle.flat_unit.specs.Hints.{Hinted}
 use Rattle.hpb_device.proofs.CountingCalls.{counted_of}
-use Rattle.trace_replay.specs.Transcript.{AreCounts, AreCountsOn, FitTranscript, HasNoMore, IsChipOf, IsRefused, IsServed, IsTranscript, SendsUnready, has_page, sizes_on, unit_on}
+use Rattle.replay_standing.specs.Transcript.{AreCounts, AreCountsOn, FitTranscript, HasNoMore, IsChipOf, IsRefused, IsServed, IsTranscript, SendsUnready, has_page, sizes_on, unit_on}
 use Rattle.trace_replay.specs.Words.{IsReplay, named_chip, named_unit}
 use Rattle.region_state.specs.declared.shape.Shape.{Shape}
 use Rattle.trace_replay.specs.declared.status.Status.{Status}

@@ -1,10 +1,10 @@
 -- What a line of the text comes to.
-use Rattle.std.proofs.Common.{◌≡◌, ℕ, length, take, List, ◌++◌, Option, Some, None, ◌∙◌, ap, subst, inr}
+use Rattle.std.proofs.Common.{◌≡◌, ℕ, length, take, List, ◌++◌, Option, Some, None, ◌∙◌, ap, subst, inr, refl}
 use Rattle.std.proofs.lemmas.List.{append_assoc}
 use Rattle.std.proofs.Math.Seq.{take-append_seam}
 use Rattle.std.specs.Io.KnownBytes.{Keeps, prepend_known}
-use Rattle.flat_unit.specs.Replays.{Progress, LineTo}
-use Rattle.flat_unit.specs.Trace.{Line}
+use Rattle.flat_unit.specs.Replays.{Progress, LineTo, with_run}
+use Rattle.flat_unit.specs.Trace.{Line, Blank}
 use Rattle.hpb_device.specs.Standing.{sizes_of}
 use Rattle.hpb_device.specs.State.{DeviceState}
 use Rattle.trace_text.specs.Grammar.{trace_line}
@@ -12,6 +12,10 @@ use Rattle.trace_text.specs.Lines.{IsLine, TakesLine, BeginsLong, WhereTold}
 use Rattle.trace_replay.specs.Moments.{Leads, Cuts, CutLineTo}
 use Rattle.trace_replay.specs.Run.{IsLong, TurnAt}
 use Rattle.trace_replay.specs.declared.replay.Turn.TheVariants.{Served, Unwritten}
+use Rattle.flat_unit.specs.Print.{print}
+use Rattle.replay_standing.specs.Standing.{Standing}
+use Rattle.trace_replay.specs.Writes.{HasWrittenUpTo}
+use Rattle.replay_standing.proofs.Standing.{run_standing}
 
 -- a text whose begin is held is too long where those bytes are
 long_before : (held left : List ℕ) → BeginsLong held → BeginsLong (held ++ left)
@@ -38,3 +42,13 @@ turn_cut start before p old new left left_now written gathered text line taken p
 -- a room that was written whole
 pub whole_room : (room rest : List ℕ) (count : ℕ) → length room ≡ count → take count (room ++ rest) ≡ room
 whole_room room rest count is = subst (λ (n : ℕ). take n (room ++ rest) ≡ room) is (take-append_seam room rest)
+
+-- a blank line begins a run
+pub blank_leads : (start now : DeviceState) (before w : Option (List ℕ)) (gathered : List ℕ) (p : Progress) → Standing start now p → HasWrittenUpTo before w (print p.events) gathered
+    → Leads (LineTo (sizes_of start) Blank p) start now before w gathered
+blank_leads start now before w gathered p at printed = record {
+  moment = with_run (sizes_of start) p;
+  reached = refl;
+  standing = run_standing start now p at;
+  printed = printed;
+}

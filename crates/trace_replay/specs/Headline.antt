@@ -13,7 +13,7 @@ use Rattle.trace_text.specs.Lines.{EndsAt, WhereTold}
 use Rattle.trace_replay.specs.ByText.{status_of}
 use Rattle.hpb_device.specs.declared.counts.Counts.{Counts}
 use Rattle.trace_replay.specs.Run.{TakesLines, bad_line_text, counts_text, long_text}
-use Rattle.trace_replay.specs.Transcript.{IsPlain}
+use Rattle.replay_standing.specs.Transcript.{IsPlain}
 use Rattle.trace_replay.specs.Writes.{AppendsFront}
 use Rattle.trace_replay.specs.declared.status.Status.{Status}
 use Rattle.trace_replay.specs.declared.status.Status.TheVariants.{Memory, WriteFault}

@@ -5,7 +5,6 @@ pub mod Limits
 pub mod Run
 pub mod Showing
 pub mod Status
-pub mod Transcript
 pub mod Words
 pub mod Writes
 pub mod Options

@@ -13,7 +13,8 @@ use Rattle.hpb_device.specs.State.{DeviceState}
 use Rattle.trace_text.specs.Grammar.{trace_line}
 use Rattle.trace_text.specs.Lines.{IsLine, IsWithinLine, TakesLine, EndsAt, BeginsLong, WhereTold}
 use Rattle.trace_text.specs.Written.{counts_line}
-use Rattle.trace_replay.specs.Moments.{Standing, Leads, Cuts, CutLineTo}
+use Rattle.replay_standing.specs.Standing.{Standing}
+use Rattle.trace_replay.specs.Moments.{Leads, Cuts, CutLineTo}
 use Rattle.trace_replay.specs.Writes.{AppendsFront, HasWrittenUpTo}
 use Rattle.trace_replay.specs.declared.replay.Turn.{Turn}
 use Rattle.trace_replay.specs.declared.replay.Turn.TheVariants.{Served, Ended, Bad, Unread, Unwritten}
@@ -22,7 +23,7 @@ use Rattle.trace_replay.specs.declared.status.Status.TheVariants.{Done, BadLine,
 use Rattle.flash_pages.specs.declared.chip.Geometry.{Geometry}
 use Rattle.flash_store.specs.Index.{CanServe}
 use Rattle.region_state.specs.Shape.{IsWithinLimits}
-use Rattle.trace_replay.specs.Transcript.{sizes_on}
+use Rattle.replay_standing.specs.Transcript.{sizes_on}
 use Rattle.trace_replay.specs.Words.{IsReplay, named_chip, named_unit}
 
 -- one fault was counted, but where the count stands at its last value

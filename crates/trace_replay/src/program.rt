@@ -5,14 +5,14 @@ ghost use Rattle.hpb_device.specs.Counts.{no_counts};
 ghost use Rattle.hpb_device.specs.Lists.{ListsStand};
 ghost use Rattle.hpb_device.specs.Regions.{HintsStand};
 ghost use Rattle.hpb_device.specs.Standing.{sizes_of};
-ghost use Rattle.trace_replay.specs.Moments.{AreCountsOf, Standing};
+ghost use Rattle.replay_standing.specs.Standing.{AreCountsOf, Standing};
 ghost use Rattle.trace_replay.specs.Run.{CountsFault, EndsLong, Finishes, IsPlanned, ProgramIs, RunIs, SinkEnds, SourceEnds, bad_line_text, counts_text};
 ghost use Rattle.trace_replay.specs.Showing.{ShowProgramIs};
 ghost use Rattle.trace_replay.specs.ByText.{is_shown_line, is_trace_line};
 ghost use Rattle.trace_replay.specs.Headline.{DrainsAll, EndsByText, Tells};
 ghost use Rattle.flat_unit.specs.Reads.{ReadsAllowed, ReadsEndGood};
 ghost use Rattle.trace_replay.specs.Options.{cut_shape};
-ghost use Rattle.trace_replay.specs.Transcript.{AreCountsOn, IsChipOf, IsTranscript, SendsUnready, sizes_on, unit_on};
+ghost use Rattle.replay_standing.specs.Transcript.{AreCountsOn, IsChipOf, IsTranscript, SendsUnready, sizes_on, unit_on};
 ghost use Rattle.trace_replay.specs.Writes.{AppendsFront};
 ghost use Rattle.trace_replay.specs.Words.{IsReplay, IsShow, named_chip, named_unit};
 

@@ -7,7 +7,7 @@ use Rattle.trace_replay.specs.declared.status.Status.TheVariants.{Done, BadLine}
 use Rattle.trace_replay.proofs.Runs.{ran_begins, ran_more, ends_done, ends_unread, ends_bad, ends_last, ends_unwritten, sink_ended, source_ended}
 use Rattle.trace_replay.proofs.Transcripts.{counts_of, ends_in_source}
 use Rattle.hpb_device.specs.State.{DeviceState}
-use Rattle.trace_replay.specs.Moments.{AreCountsOf, Standing}
+use Rattle.replay_standing.specs.Standing.{AreCountsOf, Standing}
 use Rattle.trace_replay.specs.Writes.{HasWrittenUpTo}
 use Rattle.trace_replay.proofs.Written.{all_written, keeps_same}
 use Rattle.trace_replay.proofs.program.replay.Goals as goal

@@ -3,7 +3,8 @@ use Rattle.std.proofs.lemmas.Bool.{false≢true}
 use Rattle.std.proofs.lemmas.Result.{err_from_is_err_and}
 use Rattle.flat_unit.specs.History.{followed_by}
 use Rattle.flat_unit.specs.Print.{print}
-use Rattle.trace_replay.proofs.Collecting.{calling_of, call_lines, called_all, called_begins, called_written, called_goes_on, called_is_cut, called_ends, rests_of}
+use Rattle.replay_standing.proofs.Collecting.{calling_of, rests_of}
+use Rattle.trace_replay.proofs.Collecting.{call_lines, called_all, called_begins, called_written, called_goes_on, called_is_cut, called_ends}
 use Rattle.trace_replay.proofs.Written.{grows_more, grows_none, keeps_grows}
 use Rattle.trace_replay.proofs.replay.collect.Goals as goal
 

@@ -3,7 +3,7 @@ use Rattle.flat_unit.specs.Print.{print}
 use Rattle.flat_unit.specs.Replays.{Progress}
 use Rattle.hpb_device.specs.Left.{steps_left}
 use Rattle.hpb_device.specs.State.{DeviceState}
-use Rattle.trace_replay.specs.Moments.{Standing}
+use Rattle.replay_standing.specs.Standing.{Standing}
 use Rattle.trace_replay.specs.Writes.{Grows, HasWrittenUpTo}
 use Rattle.trace_replay.proofs.Draining.{Draining}
 use Rattle.trace_replay.proofs.replay.drain.Given as goal

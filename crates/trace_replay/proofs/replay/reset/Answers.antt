@@ -1,7 +1,8 @@
 use Rattle.std.proofs.Common.{refl}
 use Rattle.std.proofs.lemmas.Result.{err_from_is_err_and}
 use Rattle.flat_unit.specs.Print.{print}
-use Rattle.trace_replay.proofs.Receiving.{WasReset, reset_leads}
+use Rattle.replay_standing.proofs.Receiving.{WasReset}
+use Rattle.trace_replay.proofs.Receiving.{reset_leads}
 use Rattle.trace_replay.proofs.Written.{keeps_grows}
 use Rattle.trace_replay.proofs.replay.reset.Goals as goal
 

@@ -1,4 +1,4 @@
-use Rattle.trace_replay.proofs.Standing.{blank_leads}
+use Rattle.trace_replay.proofs.Turns.{blank_leads}
 use Rattle.trace_replay.proofs.replay.serve.Goals as goal
 
 pub returns-in-Blank-clause-serves : goal.returns-in-Blank-clause-serves

@@ -1,23 +1,20 @@
 -- A step of the device leads from where it stands to where it stands then.
-use Rattle.std.proofs.Common.{◌≡◌, ◌⊎◌, ℕ, ◌+◌, ◌-◌, ◌^◌, ◌<◌, ◌≤◌, Bool, true, false, not, ◌&&◌, ◌||◌, nat_le, List, [], ◌∷◌, ◌++◌, length, Option, Some, None, refl, sym, ◌∙◌, ap, subst, arith, inl, inr}
+use Rattle.std.proofs.Common.{◌≡◌, ◌⊎◌, ℕ, ◌+◌, ◌-◌, ◌^◌, ◌<◌, ◌≤◌, Bool, true, false, not, ◌&&◌, ◌||◌, nat_le, List, [], ◌∷◌, length, Option, Some, None, refl, sym, ◌∙◌, ap, subst, arith, inl, inr}
 use Rattle.std.proofs.lemmas.Bool.{cases_lt, false≢true}
 use Rattle.std.proofs.lemmas.Bool.Decides.{nat_tests}
-use Rattle.std.specs.Prelude.{flat_map, is_none, is_some, IsTrue, if◌then◌else◌}
+use Rattle.std.specs.Prelude.{is_none, is_some, IsTrue, if◌then◌else◌}
 use Rattle.std.specs.Bool.{OnFalse}
 use Rattle.std.specs.List.{AllByRecursion}
-use Rattle.flat_unit.specs.declared.event.Event.{Event}
 use Rattle.flat_unit.specs.Causes.{sense_code}
 use Rattle.flat_unit.specs.History.{History, followed_by}
-use Rattle.flat_unit.specs.Print.{print, line_of}
 use Rattle.flat_unit.specs.Queue.{at_rest, on_after, tasks_after}
-use Rattle.flat_unit.specs.Replays.{OpenRun, Progress, Group, IsGroup, StepTo, events_of, stepped, serves, enough, has_asked, has_entry, is_due, keeps_write, may_be_silent, tasks_at, with_run}
+use Rattle.flat_unit.specs.Replays.{OpenRun, Progress, Group, IsTimely, StepTo, events_of, stepped, serves, enough, has_asked, has_entry, is_due, keeps_write, may_be_silent, tasks_at, with_run, told}
 use Rattle.flat_unit.specs.Sizes.{Sizes}
 use Rattle.flat_unit.specs.Stands.{First}
 use Rattle.flat_unit.specs.Task.{Task}
 use Rattle.flash_pages.specs.Chip.{Page}
 use Rattle.flash_pages.specs.Place.{Place}
-use Rattle.flat_unit.specs.Trace.{Blank}
-use Rattle.flat_unit.proofs.History.{print-followed_by, failures_are-followed_by, due_later, due_now}
+use Rattle.flat_unit.proofs.History.{failures_are-followed_by, due_later, due_now}
 use Rattle.hpb_device.specs.declared.device.Stepped.{Stepped}
 use Rattle.hpb_device.specs.declared.task.Task.{Task as Kept}
 use Rattle.flash_store.specs.declared.answers.Phase.{Phase}
@@ -31,7 +28,8 @@ use Rattle.hpb_device.proofs.Silence.{going_was_silent, tries_has_entry, tries_w
 use Rattle.hpb_device.specs.Keeps.{KeepsTasks}
 use Rattle.hpb_device.specs.Standing.{DeviceStands, DeviceStandsForeign, first_of, group_of, sizes_of}
 use Rattle.hpb_device.specs.State.{DeviceState, AreAtRest, AtRest, IsIdleIn, IsSound}
-use Rattle.hpb_device.proofs.Going.{going_counts_step, going_fails, going_group, going_is_silent, going_keeps_no_write, going_rests, going_same, going_scanned, going_scans, going_serves, going_sizes, going_stays_ready, going_steps_counted, going_tasks, going_unready, going_unscanned, keeps_no_write, no_task_rests, refusing_goes, refusing_sends}
+use Rattle.hpb_device.proofs.Going.{going_counts_step, going_fails, going_group, going_is_silent, going_keeps_no_write, going_rests, going_same, going_scanned}
+use Rattle.hpb_device.proofs.Going.{going_scans, going_serves, going_sizes, going_stays_ready, going_steps_counted, going_tasks, going_unready, going_unscanned, keeps_no_write, no_task_rests, refusing_goes, refusing_sends}
 use Rattle.hpb_device.proofs.Left.{few_kept}
 use Rattle.hpb_device.specs.Counted.{CountsStand}
 use Rattle.hpb_device.specs.Entries.{EntriesStand}
@@ -39,20 +37,13 @@ use Rattle.hpb_device.specs.Lists.{ListsStand}
 use Rattle.hpb_device.specs.Regions.{HintsStand, KeepsHistory}
 use Rattle.hpb_device.specs.Listed.{ListingStands}
 use Rattle.hex.specs.Hex.{IsBytes}
-use Rattle.trace_replay.specs.Moments.{ForeignStanding, LacksEnough, Leads, OwnStanding, Standing, pages_in}
-use Rattle.trace_replay.specs.Transcript.{IsPlain, has_page}
-use Rattle.trace_replay.specs.Writes.{HasWrittenUpTo}
-use Rattle.flat_unit.specs.Replays.{LineTo}
-use Rattle.trace_replay.proofs.Counts.{serves_some, stepped_alone, unready_group}
-use Rattle.trace_replay.proofs.Plain.{place_of_step, plain_group, upiu_of_step}
-use Rattle.trace_replay.proofs.Written.{gathers_more}
-
--- the lines of more events are gathered
-pub events_gathered : (before written : Option (List ℕ)) (e : History) (xs : List Event) (gathered : List ℕ) → HasWrittenUpTo before written (print e) gathered
-    → HasWrittenUpTo before written (print (followed_by e xs)) (gathered ++ flat_map line_of xs)
-events_gathered before written e xs gathered so_far =
-    subst (λ (text : List ℕ). HasWrittenUpTo before written text (gathered ++ flat_map line_of xs)) (sym (print-followed_by e xs))
-    (gathers_more before written (print e) gathered (flat_map line_of xs) so_far)
+use Rattle.replay_standing.specs.Calls.{HasStepped}
+use Rattle.replay_standing.specs.Standing.{ForeignStanding, LacksEnough, OwnStanding, Standing, pages_in}
+use Rattle.replay_standing.specs.Transcript.{IsPlain, has_page}
+use Rattle.replay_standing.proofs.Counts.{serves_some, stepped_alone, unready_group}
+use Rattle.replay_standing.proofs.Plain.{place_of_step, plain_group, upiu_of_step}
+use Rattle.flat_unit.specs.Sound.{owed, Sound}
+use Rattle.flat_unit.specs.Counts.{sends}
 
 -- the tasks of the device are those of the events, and HPB is on
 pub record Tracked (start now : DeviceState) (p : Progress) : Type 0 where
@@ -105,18 +96,13 @@ pub record Stepping (old new : DeviceState) (r : Stepped) (out : List ℕ) : Typ
 abbrev pub after_step : DeviceState → Progress → Stepped → List ℕ → Progress
 after_step start m r out = stepped (sizes_of start) m (group_of r out)
 
-due_leads : (s : Sizes) (m : Progress) (g : Group) → is_due s m ≡ true → IsGroup g → (g.sent ≡ None → may_be_silent s m ≡ true) → StepTo s m (stepped s m g)
-due_leads s m g due group silent = record {
-  group = g;
-  is_group = group;
-  timely = rw due (λ none. rw (silent none) refl);
-  leads = refl;
-}
+due_timely : (s : Sizes) (m : Progress) (g : Group) → is_due s m ≡ true → (g.sent ≡ None → may_be_silent s m ≡ true) → IsTimely s m g
+due_timely s m g due silent = rw due (λ none. rw (silent none) refl)
 
 -- a step that isn't due sends nothing but an answer to a failed look at the chip
-early_leads : (s : Sizes) (m : Progress) (g : Group) → is_due s m ≡ false → IsGroup g → ((bytes : List ℕ) → g.sent ≡ Some bytes → IsTrue (is_some g.failed) × (sense_code bytes ≡ Some 0x44))
-    → StepTo s m (stepped s m g)
-early_leads s m g early group looks = record { group = g; is_group = group; timely = rw early looks; leads = refl }
+early_timely : (s : Sizes) (m : Progress) (g : Group) → is_due s m ≡ false
+    → ((bytes : List ℕ) → g.sent ≡ Some bytes → IsTrue (is_some g.failed) × (sense_code bytes ≡ Some 0x44)) → IsTimely s m g
+early_timely s m g early looks = rw early looks
 
 pub not_sent : (r : Stepped) (out : List ℕ) (b : Bool) → r.sent ≡ b → (group_of r out).sent ≡ None → b ≡ false
 not_sent r out true is none = absurd (no_bytes (sent ∙ none))
@@ -185,11 +171,13 @@ foreign_late Scanning old new r out scans busy unsound none = absurd (omega (ari
 foreign_late Ready old new r out goes busy unsound none = absurd (unsound goes.sound)
 foreign_late Foreign old new r out refuses busy unsound none = (refusing_sends old new r out refuses busy, refusing_goes old new r out refuses busy)
 
-pub step_leads : (start old new : DeviceState) (m : Progress) (r : Stepped) (out : List ℕ) → Standing start old m → Stepping old new r out → StepTo (sizes_of start) m (after_step start m r out)
-step_leads start old new m r out at step = elim (cases_lt m.quiet (pages_in start)) [
+-- a step sends where it is due, and nowhere else but in the cases that are allowed
+pub step_timely : (start old new : DeviceState) (m : Progress) (r : Stepped) (out : List ℕ) → Standing start old m → Stepping old new r out
+    → IsTimely (sizes_of start) m (group_of r out)
+step_timely start old new m r out at step = elim (cases_lt m.quiet (pages_in start)) [
   | inl early ↦
       let some : 0 < unscanned old = omega (arith, at.quiet, early) in
-      early_leads (sizes_of start) m (group_of r out) (due_later (sizes_of start) m early) group (λ bytes sends.
+      early_timely (sizes_of start) m (group_of r out) (due_later (sizes_of start) m early) (λ bytes sends.
       let sent = bytes_of_step r out bytes sends in
       let looks = going_scans old.store.phase old new r out step.steps some sent.0 in
       (looks.0, ap sense_code (sym sent.1) ∙ looks.1))
@@ -198,20 +186,25 @@ step_leads start old new m r out at step = elim (cases_lt m.quiet (pages_in star
       elim at.chip [
         | inl own ↦
             let goes = going_scanned old.store.phase old new r out step.steps own.stands.sound none in
-            due_leads (sizes_of start) m (group_of r out) (due_now (sizes_of start) m late (going (goes_not_rests old new r out goes))) group
+            due_timely (sizes_of start) m (group_of r out) (due_now (sizes_of start) m late (going (goes_not_rests old new r out goes)))
             (λ silent. silent_step start old new m r out at own.tried goes (not_sent r out r.sent refl silent))
         | inr foreign ↦
             let ends = foreign_late old.store.phase old new r out step.steps step.busy (foreign.stands (first_of start)).unsound none in
-            due_leads (sizes_of start) m (group_of r out) (due_now (sizes_of start) m late (going ends.1)) group
+            due_timely (sizes_of start) m (group_of r out) (due_now (sizes_of start) m late (going ends.1))
             (λ silent. absurd (false≢true (sym (not_sent r out r.sent refl silent) ∙ ends.0)))
       ]
 ]
   where
-    group : IsGroup (group_of r out)
-    group = going_group old.store.phase old new r out step.steps
-
     going : (AtRest old → ⊥) → at_rest (tasks_at (sizes_of start) m) ≡ false
     going goes = let t = tracked start old m at in ap at_rest t.kept ∙ going_tasks old t.tasks t.keeps goes
+
+pub step_leads : (start old new : DeviceState) (m : Progress) (r : Stepped) (out : List ℕ) → Standing start old m → Stepping old new r out → StepTo (sizes_of start) m (after_step start m r out)
+step_leads start old new m r out at step = record {
+  group = group_of r out;
+  is_group = going_group old.store.phase old new r out step.steps;
+  timely = step_timely start old new m r out at step;
+  leads = refl;
+}
 
 step_plain : (start old new : DeviceState) (m : Progress) (r : Stepped) (out : List ℕ) → Standing start old m → Stepping old new r out → IsPlain (followed_by m.events (events_of (group_of r out)))
 step_plain start old new m r out at step =
@@ -269,7 +262,8 @@ tried_before start old m at tried is = by_tried m.tried refl is
     by_tried false was is = inl (due_scanned start old m at is)
 
 -- on another chip no step that is due is silent
-never_tried : (start old new : DeviceState) (m : Progress) (r : Stepped) (out : List ℕ) → Standing start old m → Stepping old new r out → ForeignStanding start old m → (after_step start m r out).tried ≡ false
+never_tried : (start old new : DeviceState) (m : Progress) (r : Stepped) (out : List ℕ) → Standing start old m → Stepping old new r out → ForeignStanding start old m
+    → (after_step start m r out).tried ≡ false
 never_tried start old new m r out at step foreign = by_sent (group_of r out).sent refl
   where
     by_due : (b : Bool) → is_due (sizes_of start) m ≡ b → (group_of r out).sent ≡ None → (m.tried || b) ≡ false
@@ -294,7 +288,8 @@ stays_ready start old new m r out at step served = by_served m.served refl serve
         let sent = bytes_of_step r out bytes sends in
         going_stays_ready old new r out step.steps (going_serves old.store.phase old new r out step.steps sent.0 (λ code. other (ap sense_code (sym sent.1) ∙ code)))
 
-step_own : (start old new : DeviceState) (m : Progress) (r : Stepped) (out : List ℕ) → Standing start old m → Stepping old new r out → OwnStanding start old m → OwnStanding start new (after_step start m r out)
+step_own : (start old new : DeviceState) (m : Progress) (r : Stepped) (out : List ℕ) → Standing start old m → Stepping old new r out → OwnStanding start old m
+    → OwnStanding start new (after_step start m r out)
 step_own start old new m r out at step own = record {
   was = own.was;
   stands = step.stands (first_of start) m.events own.stands;
@@ -315,7 +310,8 @@ step_foreign start old new m r out at step foreign =
           let sent = bytes_of_step r out bytes sends in
           ap sense_code (sym sent.1) ∙ going_unready old.store.phase old new r out step.steps here.unsound sent.0)
           (record { unready = foreign.unready; nothing_owed = subst (λ (s : Sizes). Rattle.flat_unit.specs.Sound.owed s m.events ≡ []) at.sizes here.stands.sound.nothing_owed });
-      counted = stepped_alone (sizes_of start) m.events r.failed (group_of r out).moved (group_of r out).sent old.counts new.counts (going_counts_step old.store.phase old new r out step.steps here.unsound) foreign.counted;
+      counted = stepped_alone (sizes_of start) m.events r.failed (group_of r out).moved (group_of r out).sent old.counts new.counts
+          (going_counts_step old.store.phase old new r out step.steps here.unsound) foreign.counted;
       untried = never_tried start old new m r out at step foreign;
     }
 
@@ -341,6 +337,14 @@ step_standing start old new m r out at step =
         | inr foreign ↦ inr (step_foreign start old new m r out at step foreign)
       ];
     }
+
+-- a step that had something to do made its group
+pub busy_stepped : (start old new : DeviceState) (m : Progress) (r : Stepped) (out : List ℕ) → Standing start old m → Stepping old new r out → HasStepped start new m (group_of r out)
+busy_stepped start old new m r out at step = record {
+  is_group = going_group old.store.phase old new r out step.steps;
+  timely = step_timely start old new m r out at step;
+  standing = step_standing start old new m r out at step;
+}
 
 -- the steps that are left are at most those that the tasks need
 pub few_steps : (start now : DeviceState) (p : Progress) → Standing start now p → steps_left now ≤ enough (sizes_of start) (tasks_at (sizes_of start) p)
@@ -383,16 +387,6 @@ run_standing start now p at =
       },
       at.lacking,
     )
-
--- a blank line begins a run
-pub blank_leads : (start now : DeviceState) (before w : Option (List ℕ)) (gathered : List ℕ) (p : Progress) → Standing start now p → HasWrittenUpTo before w (print p.events) gathered
-    → Leads (LineTo (sizes_of start) Blank p) start now before w gathered
-blank_leads start now before w gathered p at printed = record {
-  moment = with_run (sizes_of start) p;
-  reached = refl;
-  standing = run_standing start now p at;
-  printed = printed;
-}
 
 -- a step of a device that wasn't idle
 on_false : {P : Type 0} (b : Bool) → (IsTrue b → ⊥) → OnFalse b P → P

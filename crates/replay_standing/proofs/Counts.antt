@@ -19,7 +19,7 @@ use Rattle.hpb_device.specs.declared.device.Sent.{Sent}
 use Rattle.hpb_device.specs.declared.device.Sent.TheVariants.{Nothing, Upiu as UpiuSent}
 use Rattle.hpb_device.specs.Counts.{counted_step, no_counts}
 use Rattle.hpb_device.specs.Standing.{answer_events}
-use Rattle.trace_replay.specs.Transcript.{CountStepsAlone, IsUnready, SendsUnready}
+use Rattle.replay_standing.specs.Transcript.{CountStepsAlone, IsUnready, SendsUnready}
 
 -- events that follow others
 pub followed_by-more : (e : History) (xs ys : List Event) → followed_by e (xs ++ ys) ≡ followed_by (followed_by e xs) ys

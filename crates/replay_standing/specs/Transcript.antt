@@ -1,5 +1,6 @@
 -- What a run promises of the events that it prints, and of the chip that it hands back.
-use Rattle.std.specs.Prelude.{⊤, ◌≡◌, ◌⊎◌, ℕ, ◌*◌, ◌^◌, ◌-◌, ◌≤◌, Bool, true, is_some, min, List, [], ◌∷◌, Contains, Some}
+use Rattle.std.specs.Prelude.{⊤, ◌≡◌, ◌⊎◌, ℕ, ◌*◌, ◌^◌, ◌-◌, ◌≤◌, Bool, true, is_some, min, List, [], ◌∷◌, Contains}
+use Rattle.std.specs.Prelude.{Some}
 use Rattle.flash_pages.specs.declared.chip.Geometry.{Geometry}
 use Rattle.flash_pages.specs.Chip.{Page, erased_count}
 use Rattle.flash_pages.specs.Place.{Place, IsPlace}
@@ -37,7 +38,8 @@ unit_on shape chip = unit_of 1 shape.units chip
 abbrev pub IsChipOf : Shape → Geometry → List Page → Type 0
 IsChipOf shape geometry chip = ChipOk geometry 1 shape.units chip
 
--- the bytes of each event are bytes, and no more than a UPIU of its side has, and its numbers have room where they are printed
+-- the bytes of each event are bytes, and no more than a UPIU of its side has, and its numbers have room where they are
+-- printed
 pub record IsPlain (e : History) : Type 0 where
   pub bytes : HaveRoom e
   pub short : AreShort e
@@ -61,10 +63,11 @@ SendsUnready s [] = ⊤
 SendsUnready s (Device bytes ∷ e) = SendsUnready s e × IsUnready bytes (owed s e)
 SendsUnready s (_ ∷ e) = SendsUnready s e
 
--- Over a sound chip: the events are sound over its unit, and each ending has its cause. The chip that is handed back is sound, and
--- each of its blocks is one that the flat unit allows once all tasks are dropped. Each entry that READ BUFFER listed told whether
--- its block had a page, and each that is fresh is the number of its block's page. Where a step has served a task since the last
--- reset, and the collector was called often enough since, nothing is left to collect.
+-- Over a sound chip: the events are sound over its unit, and each ending has its cause. The chip that is handed back is
+-- sound, and each of its blocks is one that the flat unit allows once all tasks are dropped. Each entry that READ
+-- BUFFER listed told whether its block had a page, and each that is fresh is the number of its block's page. Where a
+-- step has served a task since the last reset, and the collector was called often enough since, nothing is left to
+-- collect.
 pub record IsServed (shape : Shape) (geometry : Geometry) (chip back : List Page) (p : Progress) : Type 0 where
   pub sound : Sound (sizes_on shape geometry) (unit_on shape chip) p.events
   pub caused : Caused (sizes_on shape geometry) ⊥ (next_seq chip) p.events
@@ -77,17 +80,18 @@ pub record IsServed (shape : Shape) (geometry : Geometry) (chip back : List Page
   pub collected : p.served ≡ true
       → 2 * geometry.pages * (geometry.blocks * geometry.pages) ≤ p.collected → HasNoMore geometry back
 
--- Over any other chip: the events are sound over each unit, and each step that sends tells that the chip is none of the device's, or
--- could not be read. The chip is handed back as it came.
+-- Over any other chip: the events are sound over each unit, and each step that sends tells that the chip is none of the
+-- device's, or could not be read. The chip is handed back as it came.
 pub record IsRefused (shape : Shape) (geometry : Geometry) (chip back : List Page) (p : Progress) : Type 0 where
   pub sound : (unit : List Block) → Sound (sizes_on shape geometry) unit p.events
   pub caused : Caused (sizes_on shape geometry) ⊤ (next_seq chip) p.events
   pub unready : SendsUnready (sizes_on shape geometry) p.events
   pub stays : back ≡ chip
 
--- The events are plain, each GOOD RESPONSE tells what is to be told of the regions, the calls of the chip that failed are those that
--- its count tells, and the rest is by the chip.
-pub record IsTranscript (shape : Shape) (geometry : Geometry) (faults faults_back : ℕ) (chip back : List Page) (p : Progress) : Type 0 where
+-- The events are plain, each GOOD RESPONSE tells what is to be told of the regions, the calls of the chip that failed
+-- are those that its count tells, and the rest is by the chip.
+pub record IsTranscript (shape : Shape) (geometry : Geometry) (faults faults_back : ℕ) (chip back : List Page) (p : Progress)
+    : Type 0 where
   pub plain : IsPlain p.events
   pub hinted : Hinted shape (sizes_on shape geometry) p.events
   pub failures : FailuresAre faults faults_back p.events
@@ -96,7 +100,8 @@ pub record IsTranscript (shape : Shape) (geometry : Geometry) (faults faults_bac
 
 -- counts that stop at 2^64 - 1 are those of whole numbers that fit the transcript
 abbrev pub FitTranscript : Sizes → (pages per_block free : ℕ) → History → Counts → Type 0
-FitTranscript s pages per_block free e counts = (exact : Exact) × Counted s pages per_block free e exact × AreCut counts exact
+FitTranscript s pages per_block free e counts =
+    (exact : Exact) × Counted s pages per_block free e exact × AreCut counts exact
 
 -- nothing but steps is counted, at least one for each UPIU that a step sent
 pub record CountStepsAlone (s : Sizes) (e : History) (counts : Counts) : Type 0 where
@@ -106,13 +111,15 @@ pub record CountStepsAlone (s : Sizes) (e : History) (counts : Counts) : Type 0 
   pub moved : counts.moved ≡ 0
   pub erased : counts.erased ≡ 0
 
--- The counts at the end of a trace: no more steps were made than its lines let the device make. Over a sound chip they fit the
--- transcript, and over any other only steps are counted.
-pub record AreCounts (s : Sizes) (pages per_block free : ℕ) (sound : Type 0) (p : Progress) (counts : Counts) : Type 0 where
+-- The counts at the end of a trace: no more steps were made than its lines let the device make. Over a sound chip they
+-- fit the transcript, and over any other only steps are counted.
+pub record AreCounts (s : Sizes) (pages per_block free : ℕ) (sound : Type 0) (p : Progress) (counts : Counts)
+    : Type 0 where
   pub steps : counts.steps ≤ p.steps
   pub fit : sound → FitTranscript s pages per_block free p.events counts
   pub alone : ¬ sound → CountStepsAlone s p.events counts
 
 abbrev pub AreCountsOn : Shape → Geometry → List Page → Progress → Counts → Type 0
 AreCountsOn shape geometry chip =
-    AreCounts (sizes_on shape geometry) (geometry.blocks * geometry.pages) geometry.pages (erased_count chip) (IsChipOf shape geometry chip)
+    AreCounts (sizes_on shape geometry) (geometry.blocks * geometry.pages) geometry.pages (erased_count chip)
+    (IsChipOf shape geometry chip)

@@ -30,7 +30,7 @@ use Rattle.drive_rules.specs.Lines.{Drive, DriveStep, DriveSteps, Exchanges, han
 use Rattle.driver_caches.specs.Machine.{Machine, deliver, evicted_from, hold, is_nothing, next_upiu, with_delivered, with_evicted, with_next, with_own}
 
 -- what the device keeps then are all open commands
-all_out : (opens : List OpenCommand) → AllOut opens → filter is_out opens ≡ opens
+pub all_out : (opens : List OpenCommand) → AllOut opens → filter is_out opens ≡ opens
 all_out [] all = refl
 all_out (o ∷ os) all = ap (λ (b : Bool). cond b (o ∷ filter is_out os) (filter is_out os)) all.0 ∙ ap (λ (xs : List OpenCommand). o ∷ xs) (all_out os all.1)
 

@@ -63,7 +63,7 @@ after_less s opens some sends = by_owing (find owes_data opens) refl sends
     by_owing (Some o) is going = change_less owes_data (with_piece s) opens o (λ x owes. piece_less s x some owes) is
     by_owing None is going = by_waiting (find is_waiting opens) refl going
 
-after_count : (s : Sizes) (opens : List OpenCommand) (next : Next) → length (after_next s opens next) ≡ length opens
+pub after_count : (s : Sizes) (opens : List OpenCommand) (next : Next) → length (after_next s opens next) ≡ length opens
 after_count s opens (Piece o) = change_count owes_data (with_piece s) opens
 after_count s opens (Begin o) = change_count is_waiting with_begin opens
 after_count s opens Nothing = refl

@@ -1,0 +1,5 @@
+pub mod Sent
+pub mod Heard
+pub mod Others
+pub mod Passes
+pub mod Places

@@ -5,3 +5,5 @@ pub mod FlatLines
 pub mod Cached
 pub mod Held
 pub mod Told
+pub mod Cuts
+pub mod Text

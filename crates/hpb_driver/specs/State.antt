@@ -73,7 +73,7 @@ abbrev pub all_wait : List OpenCommand → ℕ
 all_wait [] = 0
 all_wait (o ∷ os) = waits o + all_wait os
 
--- how often a driver sends at most before it hears of the device again: for each command that may be opened yet, and for
--- those that are open
+-- how often a driver sends at most before it hears of the device again: for each command that may be opened yet, and
+-- for those that are open
 abbrev pub to_send : Machine → ℕ
 to_send m = (32 - length m.opens) + all_wait m.opens

@@ -141,7 +141,8 @@ impl Driver {
     ghost use Rattle.driver_commands.specs.Open.{gets, gives};
     ghost use Rattle.driver_laws.specs.Commands.{opened};
     ghost use Rattle.driver_caches.specs.Machine.{tell};
-    ghost use Rattle.hpb_driver.specs.State.{HasBytes, IsNewFault, IsSubmitFault, IsSubmitted, has_blocks, is_inside, to_send};
+    ghost use Rattle.hpb_driver.specs.State.{HasBytes, IsNewFault, IsSubmitFault, IsSubmitted, has_blocks, is_inside};
+    ghost use Rattle.hpb_driver.specs.State.{to_send};
 
     /// A driver of `luns` logical units, each of this shape. A plain one has no caches: it ignores hints, and sends
     /// no entries and no command of its own. All memory is taken here but that of requests: room for 32 open

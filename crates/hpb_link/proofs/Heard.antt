@@ -5,7 +5,6 @@ use Rattle.std.specs.List.{find}
 use Rattle.region_state.specs.declared.shape.Shape.{Shape}
 use Rattle.flash_pages.specs.declared.chip.ChipOp.{ChipOp}
 use Rattle.flash_pages.specs.Place.{Place}
-use Rattle.flat_unit.specs.declared.event.Event.{Event}
 use Rattle.flat_unit.specs.declared.event.Event.TheVariants.{Device}
 use Rattle.flat_unit.specs.Replays.{Group, events_of, failed_events, moved_events, sent_events}
 use Rattle.flat_unit.specs.Sizes.{Sizes}
@@ -27,12 +26,12 @@ use Rattle.flat_unit.specs.Command.{bytes_given, bytes_taken}
 use Rattle.driver_laws.specs.declared.fault.DriverFault.TheVariants.{Phase}
 use Rattle.driver_laws.specs.Commands.{has}
 use Rattle.driver_laws.specs.Deliver.{Delivered, delivered, delivered_by, delivered_by_fault, delivered_to, may_come_by, taken}
-use Rattle.driver_laws.specs.Drive.{Moment, gets, has_asked, without_asked, with_delivered as moment_delivered, with_done as moment_done}
-use Rattle.driver_laws.specs.Flat.{Asked, Came}
-use Rattle.driver_caches.specs.Machine.{Machine, deliver, with_delivered as machine_delivered}
+use Rattle.driver_laws.specs.Drive.{Moment, has_asked, without_asked, with_delivered as moment_delivered, with_done as moment_done}
+use Rattle.driver_laws.specs.Flat.{Asked}
+use Rattle.driver_caches.specs.Machine.{Machine, with_delivered as machine_delivered}
 use Rattle.driver_commands.specs.Open.{sizes_of as driver_sizes}
 use Rattle.drive_rules.specs.Lines.{AreBytes, Drive, SendsBytes, happened, moment_of, stepped_by}
-use Rattle.drive_rules.specs.Said.{Said, Happened, Ended as EndedSaid, with_answer, with_delivered, with_done}
+use Rattle.drive_rules.specs.Said.{Said, with_answer, with_delivered, with_done}
 use Rattle.hpb_link.specs.declared.ticket.Ticket.{Ticket}
 use Rattle.hpb_link.specs.declared.ticket.Ended.{Ended}
 use Rattle.hpb_link.specs.State.{IsHeard, LinkState, ended_after, ended_done, ended_heard, is_for, machine_heard, ticket_of, tickets_after, tickets_done, tickets_heard, without_ticket}
@@ -226,7 +225,8 @@ hears start old now d g ended at heard =
     ∙ (λ i. ended_heard s g.sent (opens i) (at.tickets i)) in
     record {
       machine = heard.driver ∙ same_machine start g.sent old.driver shaped ∙ ap (machine_heard s g.sent) at.machine ∙ sym machine;
-      tickets = heard.tickets ∙ same_tickets start g.sent old.driver.shape old.driver.opens old.tickets shaped ∙ (λ i. tickets_heard s g.sent (opens i) (at.tickets i)) ∙ step_tickets s d g.failed g.moved g.sent;
+      tickets = heard.tickets ∙ same_tickets start g.sent old.driver.shape old.driver.opens old.tickets shaped
+          ∙ (λ i. tickets_heard s g.sent (opens i) (at.tickets i)) ∙ step_tickets s d g.failed g.moved g.sent;
       count = heard.count ∙ at.count ∙ sym (ap (λ (r : Requested). r.count) (asked_events s (events_of g) d));
       lun = heard.lun ∙ at.lun ∙ sym (ap (λ (r : Requested). r.lun) (asked_events s (events_of g) d));
       shape = ap (λ (m : Machine). m.shape) machine ∙ stays.0 ∙ at.shape;
@@ -284,7 +284,8 @@ unsent_said s d g none =
     (step_said s d g.failed g.moved g.sent)
 
 -- what was heard depends on the driver and the tickets alone
-pub heard_by : (old was now : LinkState) (ended : Option Ended) (sent same : Option (List ℕ)) → was.driver ≡ old.driver → was.tickets ≡ old.tickets → was.count ≡ old.count → was.lun ≡ old.lun → sent ≡ same
+pub heard_by : (old was now : LinkState) (ended : Option Ended) (sent same : Option (List ℕ)) → was.driver ≡ old.driver → was.tickets ≡ old.tickets → was.count ≡ old.count → was.lun ≡ old.lun
+    → sent ≡ same
     → IsHeard sent was now ended → IsHeard same old now ended
 heard_by old was now ended sent same driver tickets count lun is heard = record {
   driver = heard.driver ∙ (λ i. machine_heard (driver_sizes (driver i).shape) (is i) (driver i));

@@ -1,11 +1,9 @@
 -- Requests, calls of the collector, resets, holds and the choice of a unit.
-use Rattle.std.proofs.Common.{◌≡◌, ℕ, ◌+◌, ◌*◌, ◌≤◌, ◌<◌, Bool, true, false, ◌&&◌, List, [], ◌∷◌, ◌++◌, length, map, Option, None, refl, sym, ◌∙◌, ap, subst, arith, nat_le, nat_lt}
-use Rattle.std.specs.Prelude.{All, fold}
+use Rattle.std.proofs.Common.{◌≡◌, ℕ, ◌+◌, ◌≤◌, ◌<◌, Bool, true, false, ◌&&◌, List, [], ◌∷◌, ◌++◌, length, map, Option, None, refl, sym, ◌∙◌, ap, subst, arith, nat_le, nat_lt}
 use Rattle.std.proofs.lemmas.Bool.{false≢true}
 use Rattle.std.proofs.lemmas.Bool.Decides.{nat_tests}
 use Rattle.region_state.specs.declared.shape.Shape.{Shape}
-use Rattle.flat_unit.specs.declared.event.Event.{Event}
-use Rattle.flat_unit.specs.Replays.{Group, IsCollection, Progress, collected_to, events_of, reset as reset_progress}
+use Rattle.flat_unit.specs.Replays.{Group, events_of, reset as reset_progress}
 use Rattle.hpb_device.specs.Standing.{sizes_of}
 use Rattle.hpb_device.specs.State.{DeviceState}
 use Rattle.replay_standing.specs.Calls.{HasCalled}
@@ -22,13 +20,15 @@ use Rattle.drive_rules.proofs.Asking.{Requested, asked_events}
 use Rattle.drive_rules.proofs.Turns.{led_call, led_held, led_outside, led_requested, led_reset}
 use Rattle.hpb_driver.specs.State.{HasBytes, is_inside}
 use Rattle.hpb_link.specs.declared.ticket.Ticket.{Ticket}
-use Rattle.hpb_link.specs.State.{LinkState, lba_of, machine_heard, ticket_of, tickets_heard}
+use Rattle.drive_rules.specs.Text.{lba_of}
+use Rattle.hpb_link.specs.State.{LinkState, machine_heard, ticket_of, tickets_heard}
 use Rattle.hpb_link.specs.Stands.{AtDrive}
 use Rattle.hpb_link.proofs.Heard.{step_machine, step_tickets}
 use Rattle.hpb_link.proofs.Sent.{stays_of}
 
 -- a call of the collector, of which the driver hears nothing
-pub collected_at : (start : DeviceState) (old now : LinkState) (d : Drive) (g : Group) → AtDrive start old d → HasCalled start now.device d.progress (events_of g) → g.sent ≡ None → now.driver ≡ old.driver
+pub collected_at : (start : DeviceState) (old now : LinkState) (d : Drive) (g : Group) → AtDrive start old d → HasCalled start now.device d.progress (events_of g) → g.sent ≡ None
+    → now.driver ≡ old.driver
     → now.tickets ≡ old.tickets → now.count ≡ old.count → now.lun ≡ old.lun → AtDrive start now (collected_by (sizes_of start) (events_of g) d)
 collected_at start old now d g at called silent driver tickets count lun =
     let s = sizes_of start in
@@ -114,7 +114,8 @@ there_blocks start m lun lba n shape luns is =
     let units = ap (λ (x : Shape). x.units) shape in
     (omega (arith, l, luns), f, omega (arith, w, units))
 
-pub is_request : (start : DeviceState) (m : Machine) (request : Request) → m.shape ≡ start.shape → m.luns ≡ start.store.luns → HasBytes request → is_inside m request ≡ true → IsRequest (sizes_of start) request
+pub is_request : (start : DeviceState) (m : Machine) (request : Request) → m.shape ≡ start.shape → m.luns ≡ start.store.luns → HasBytes request → is_inside m request ≡ true
+    → IsRequest (sizes_of start) request
 is_request start m (ReadOf lun lba n) shape luns has is = there_blocks start m lun lba n shape luns is
 is_request start m (WriteOf lun lba n bytes) shape luns has is = let t = there_blocks start m lun lba n shape luns is in (t.0, t.1, t.2, has)
 is_request start m SyncAll shape luns has is = tt
@@ -125,9 +126,11 @@ map_behind [] a = refl
 map_behind (x ∷ xs) a = ap (λ (ts : List Ticket). ticket_of x ∷ ts) (map_behind xs a)
 
 -- a request was taken
-pub taken_at : (start : DeviceState) (old now : LinkState) (request : Request) (d : Drive) (tag : ℕ) → AtDrive start old d → HasBytes request → length old.driver.opens < 32 → is_inside old.driver request ≡ true
+pub taken_at : (start : DeviceState) (old now : LinkState) (request : Request) (d : Drive) (tag : ℕ) → AtDrive start old d → HasBytes request → length old.driver.opens < 32
+    → is_inside old.driver request ≡ true
     → now.device ≡ old.device → now.driver ≡ submit request old.driver → tag ≡ last_tag now.driver.opens
-    → now.tickets ≡ old.tickets ++ record { number = old.count + 1; tag = tag; lba = lba_of request } ∷ [] → now.count ≡ old.count + 1 → now.lun ≡ old.lun → AtDrive start now (requested true request d)
+    → now.tickets ≡ old.tickets ++ record { number = old.count + 1; tag = tag; lba = lba_of request } ∷ [] → now.count ≡ old.count + 1 → now.lun ≡ old.lun
+    → AtDrive start now (requested true request d)
 taken_at start old now request d tag at has few inside device driver last tickets count lun =
     let s = sizes_of start in
     let submitted = driver ∙ ap (submit request) at.machine in
@@ -150,7 +153,8 @@ taken_at start old now request d tag at has few inside device driver last ticket
     }
 
 -- a request is out of range
-pub outside_at : (start : DeviceState) (old now : LinkState) (request : Request) (d : Drive) → AtDrive start old d → now ≡ record old { count = old.count + 1 } → AtDrive start now (requested false request d)
+pub outside_at : (start : DeviceState) (old now : LinkState) (request : Request) (d : Drive) → AtDrive start old d → now ≡ record old { count = old.count + 1 }
+    → AtDrive start now (requested false request d)
 outside_at start old now request d at is = subst (λ (x : LinkState). AtDrive start x (requested false request d)) (sym is) (record {
   limits = at.limits;
   some_unit = at.some_unit;

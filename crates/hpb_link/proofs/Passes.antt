@@ -1,11 +1,8 @@
 -- Why a pass of a drain comes to its end: each step of the device leaves fewer, and what the driver sends doesn't add any.
-use Rattle.std.proofs.Common.{◌≡◌, ◌≢◌, ◌⊎◌, inl, inr, ℕ, suc, ◌+◌, ◌≤◌, ◌<◌, Bool, true, false, List, [], ◌∷◌, ◌++◌, length, map, Option, refl, sym, ◌∙◌, ap, subst, arith}
-use Rattle.std.specs.Prelude.{IsTrue, filter}
+use Rattle.std.proofs.Common.{◌≡◌, ◌≢◌, inl, inr, ℕ, suc, ◌≤◌, ◌<◌, Bool, true, false, List, [], ◌∷◌, length, map, refl, sym, ◌∙◌, ap, subst, arith}
+use Rattle.std.specs.Prelude.{IsTrue}
 use Rattle.std.specs.Bool.{OnFalse}
 use Rattle.std.proofs.lemmas.List.{length-append, length-map}
-use Rattle.upiu_wire.specs.Upiu.{upiu_at}
-use Rattle.flat_unit.specs.Queue.{tasks_after}
-use Rattle.flat_unit.specs.Replays.{tasks_at}
 use Rattle.flat_unit.specs.Sizes.{Sizes}
 use Rattle.flat_unit.specs.Task.{Task}
 use Rattle.hpb_device.specs.declared.device.Sent.{Sent}
@@ -21,7 +18,7 @@ use Rattle.hpb_device.proofs.Going.{no_task_rests}
 use Rattle.replay_standing.proofs.Beginning.{sound_of}
 use Rattle.replay_standing.proofs.Making.{rests_at}
 use Rattle.replay_standing.proofs.Standing.{Tracked, idle_rests, tracked}
-use Rattle.driver_laws.specs.Commands.{Nothing, OpenCommand, is_out, next_of}
+use Rattle.driver_laws.specs.Commands.{Nothing, next_of}
 use Rattle.driver_laws.specs.Fits.{Fits, kept_as}
 use Rattle.driver_laws.proofs.Resting.{rests}
 use Rattle.driver_caches.specs.Machine.{Machine, with_next, with_own}
@@ -87,7 +84,8 @@ receives_left old new bytes out UpiuSent same (inl is) = let left = ap steps_lef
 receives_left old new bytes out UpiuSent same (inr ends) = let left = ends.left in omega (arith, left)
 
 -- what it sends to the device adds no steps
-pub sent_left : (start : DeviceState) (old now : LinkState) (d : Drive) (bytes out : List ℕ) (result : Sent) → AtDrive start old d → AtDrive start now (sent (sizes_of start) d) → old.driver.held ≡ true
+pub sent_left : (start : DeviceState) (old now : LinkState) (d : Drive) (bytes out : List ℕ) (result : Sent) → AtDrive start old d → AtDrive start now (sent (sizes_of start) d)
+    → old.driver.held ≡ true
     → AllOut old.driver.opens → Receives old.device now.device bytes result out → steps_left now.device ≤ steps_left old.device
 sent_left start old now d bytes out result at after held all receives =
     let s = sizes_of start in
@@ -100,7 +98,8 @@ sent_left start old now d bytes out result at after held all receives =
     receives_left old.device now.device bytes out result
     (task_count start now (sent s d) after kept.out ∙ count ∙ sym (task_count start old d at all_too)) receives
 
-pub step_fewer : (start : DeviceState) (old : LinkState) (was new : DeviceState) (r : Stepped) (d : Drive) → AtDrive start old d → was ≡ old.device → next_of old.driver.opens ≡ Nothing → old.driver.opens ≢ []
+pub step_fewer : (start : DeviceState) (old : LinkState) (was new : DeviceState) (r : Stepped) (d : Drive) → AtDrive start old d → was ≡ old.device → next_of old.driver.opens ≡ Nothing
+    → old.driver.opens ≢ []
     → (IsTrue r.idle → IsIdle was) → OnFalse r.idle (LeavesFewer was new r) → steps_left new < steps_left old.device
 step_fewer start old was new r d at same nothing some idle fewer =
     let both = subst (λ (x : DeviceState). (IsTrue r.idle → IsIdle x) × OnFalse r.idle (LeavesFewer x new r)) same (idle, fewer) in

@@ -1,11 +1,10 @@
 -- What the place of the first ticket of a tag tells of the list.
-use Rattle.std.proofs.Common.{◌≡◌, ℕ, zero, suc, ◌<◌, Bool, true, false, cond, ◌||◌, List, [], ◌∷◌, length, take, Option, Some, None, refl, sym, ◌∙◌, ap, arith}
+use Rattle.std.proofs.Common.{◌≡◌, ℕ, zero, suc, Bool, true, false, cond, ◌||◌, List, [], ◌∷◌, take, Some, None, refl, sym, ◌∙◌, ap, arith}
 use Rattle.std.specs.Prelude.{if◌then◌else◌, option_map, slice_index_or}
 use Rattle.std.specs.List.{find, list_any, remove}
 use Rattle.std.proofs.lemmas.Bool.{false≢true}
 use Rattle.hpb_link.specs.declared.ticket.Ticket.{Ticket}
 use Rattle.driver_laws.specs.declared.answer.Done.{Done}
-use Rattle.hpb_link.specs.declared.ticket.Ended.{Ended}
 use Rattle.hpb_link.specs.State.{IsPlaceAt, ended_done, is_for, without_ticket}
 
 pub record Found (tag : ℕ) (tickets : List Ticket) (place : ℕ) : Type 0 where

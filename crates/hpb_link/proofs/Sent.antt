@@ -1,22 +1,18 @@
 -- The driver sends, and the device gets it.
-use Rattle.std.proofs.Common.{◌≡◌, ℕ, ◌≤◌, ◌<◌, ◌^◌, Bool, true, false, List, [], ◌∷◌, length, map, Option, Some, None, refl, sym, ◌∙◌, ap, subst, arith}
+use Rattle.std.proofs.Common.{◌≡◌, ℕ, ◌≤◌, Bool, true, false, List, [], ◌∷◌, map, Option, Some, None, refl, sym, ◌∙◌, ap, subst, arith}
 use Rattle.std.specs.Prelude.{if◌then◌else◌}
 use Rattle.std.proofs.lemmas.Bool.{false≢true}
 use Rattle.region_state.specs.declared.shape.Shape.{Shape}
 use Rattle.region_state.specs.Shape.{IsWithinLimits}
 use Rattle.upiu_wire.specs.Upiu.{Upiu, upiu_out}
-use Rattle.flat_unit.specs.declared.event.Event.{Event}
-use Rattle.flat_unit.specs.Contents.{Block}
-use Rattle.flat_unit.specs.Replays.{OpenRun, Progress, received}
+use Rattle.flat_unit.specs.Replays.{Progress, received}
 use Rattle.flat_unit.specs.Sizes.{Sizes}
-use Rattle.flat_unit.specs.Sound.{SoundSoFar}
 use Rattle.hpb_device.specs.Standing.{sizes_of}
 use Rattle.hpb_device.specs.State.{DeviceState}
 use Rattle.replay_standing.specs.Standing.{Standing}
 use Rattle.replay_standing.proofs.Beginning.{sound_of}
 use Rattle.driver_laws.specs.Drive.{Moment}
 use Rattle.driver_laws.specs.Fits.{Serves}
-use Rattle.driver_laws.specs.Flat.{Asked}
 use Rattle.driver_caches.specs.Machine.{Machine, Own, evicted_from, loads, may_send_own, next_upiu, wanted_from, with_evicted, with_next, with_own, with_picked}
 use Rattle.driver_commands.specs.Calls.{IsSent}
 use Rattle.driver_commands.specs.Open.{sizes_of as driver_sizes}
@@ -24,7 +20,7 @@ use Rattle.drive_rules.specs.Cached.{HasCaches, HasShape}
 use Rattle.drive_rules.specs.Lines.{Drive, handed, sent}
 use Rattle.flat_unit.specs.declared.event.Event.TheVariants.{Host}
 use Rattle.drive_rules.specs.Said.{Happened, Said, with_sent}
-use Rattle.drive_rules.specs.Tame.{IsLed, StaysTame}
+use Rattle.drive_rules.specs.Tame.{StaysTame}
 use Rattle.drive_rules.proofs.Asking.{Requested, asked_sent}
 use Rattle.drive_rules.proofs.Staying.{cached_stays}
 use Rattle.drive_rules.proofs.Turns.{SendsQuietly, led_sent, sends_quietly}
@@ -85,7 +81,8 @@ handed_runs : (s : Sizes) (d : Drive) (v : Option Upiu) → d.progress.runs ≡ 
 handed_runs s d (Some v) none = refl
 handed_runs s d None none = none
 
-pub sent_at : (start : DeviceState) (old now : LinkState) (d : Drive) → AtDrive start old d → now.driver ≡ with_next (driver_sizes old.driver.shape) old.driver → now.tickets ≡ old.tickets → now.count ≡ old.count
+pub sent_at : (start : DeviceState) (old now : LinkState) (d : Drive) → AtDrive start old d → now.driver ≡ with_next (driver_sizes old.driver.shape) old.driver → now.tickets ≡ old.tickets
+    → now.count ≡ old.count
     → now.lun ≡ old.lun → HandedTo start old.device now.device d.progress (next_upiu (driver_sizes old.driver.shape) old.driver) → AtDrive start now (sent (sizes_of start) d)
 sent_at start old now d at driver tickets count lun got =
     let s = sizes_of start in

@@ -50,7 +50,8 @@ IsSaid (Some ended) before now =
     (a : Asked) × (now ≡ EndedSaid a (Came ended.answer) ∷ before) × (ended.ticket ≡ ticket_of a)
 
 -- a step of the device made a group, and the driver got what it sent
-pub record HasDriven (start : DeviceState) (now : LinkState) (d : Drive) (g : Group) (ended : Option Ended) : Type 0 where
+pub record HasDriven (start : DeviceState) (now : LinkState) (d : Drive) (g : Group) (ended : Option Ended)
+    : Type 0 where
   pub is_group : IsGroup g
   pub bytes : SendsBytes g.sent
   pub timely : IsTimely (sizes_of start) d.progress g

@@ -6,8 +6,7 @@ use Rattle.driver_laws.specs.declared.answer.Done.{Done}
 use Rattle.driver_laws.specs.declared.fault.DriverFault.{DriverFault}
 use Rattle.driver_laws.specs.Deliver.{Delivered, delivered}
 use Rattle.hpb_device.specs.State.{DeviceState}
-use Rattle.driver_laws.specs.declared.request.Request.{Request}
-use Rattle.driver_laws.specs.declared.request.Request.TheVariants.{Read as ReadOf, Write as WriteOf}
+use Rattle.drive_rules.specs.Text.{lba_of}
 use Rattle.flat_unit.specs.Sizes.{Sizes}
 use Rattle.driver_laws.specs.Commands.{OpenCommand}
 use Rattle.driver_laws.specs.Flat.{Asked}
@@ -24,12 +23,6 @@ pub record LinkState : Type 0 where
   pub tickets : List Ticket
   pub count : ℕ
   pub lun : ℕ
-
--- the first block of a request
-abbrev pub lba_of : Request → ℕ
-lba_of (ReadOf lun lba n) = lba
-lba_of (WriteOf lun lba n bytes) = lba
-lba_of _ = 0
 
 -- the ticket of a request
 abbrev pub ticket_of : Asked → Ticket

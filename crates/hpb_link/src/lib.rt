@@ -6,3 +6,6 @@ mod ticket;
 
 pub use link::{Link, Submitted};
 pub use ticket::{Ended, Ticket};
+
+#[cfg(test)]
+mod tests;

@@ -12,7 +12,8 @@ ghost use Rattle.driver_commands.specs.Open.{sizes_of as driver_sizes};
 ghost use Rattle.drive_rules.specs.Held.{AllOut};
 ghost use Rattle.drive_rules.specs.Lines.{Drive, collected_by, held_back, reset_both, sent};
 ghost use Rattle.hpb_driver.specs.State.{HasBytes, to_send};
-ghost use Rattle.hpb_link.specs.State.{IsHeard, LinkState, lba_of};
+ghost use Rattle.drive_rules.specs.Text.{lba_of};
+ghost use Rattle.hpb_link.specs.State.{IsHeard, LinkState};
 ghost use Rattle.hpb_link.specs.Stands.{AtDrive, HasCollected, HasDriven, IsSubmittedAt, said_sent};
 
 use crate::ticket::{Ended, Ticket, take_ticket};
@@ -78,8 +79,8 @@ fn lba_of(request: &Request) -> u32
 }
 
 impl<F: Flash> Link<F> {
-    /// A device and its driver, of which neither has anything open. It takes memory for the tickets of 32 requests; where
-    /// there is none, the device comes back.
+    /// A device and its driver, of which neither has anything open. It takes memory for the tickets of 32 requests;
+    /// where there is none, the device comes back.
     pub fn new(
         alloc: Global,
         device: Device<F>,

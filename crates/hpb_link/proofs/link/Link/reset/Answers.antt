@@ -1,6 +1,6 @@
-use Rattle.std.proofs.Common.{subst, sym, refl, ap, ◌∙◌, true, false, Bool}
+use Rattle.std.proofs.Common.{subst, sym, refl}
 use Rattle.hpb_link.specs.State.{LinkState}
-use Rattle.hpb_link.specs.Stands.{AtDrive, said_sent}
+use Rattle.hpb_link.specs.Stands.{AtDrive}
 use Rattle.hpb_link.proofs.Others.{reset_at}
 use Rattle.hpb_link.proofs.link.Link.reset.Goals as goal
 

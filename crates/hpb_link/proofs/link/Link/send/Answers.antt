@@ -1,4 +1,4 @@
-use Rattle.std.proofs.Common.{subst, sym, refl, ap, ◌∙◌, true, false, Bool}
+use Rattle.std.proofs.Common.{subst, sym, refl, ap, ◌∙◌, Bool}
 use Rattle.hpb_device.specs.Calls.{Receives}
 use Rattle.hpb_device.specs.State.{DeviceState}
 use Rattle.hpb_link.proofs.Passes.{sent_left}

@@ -19,7 +19,8 @@ returns-then-stepped-clause-leads g c start d at =
     (subst (λ (x : DeviceState). HasStepped start x d.progress (group_of c.step-stepped.result c.step-stepped.new.out)) (sym c.deliver-ended.ensures.device)
     (c.step-stepped.ensures.leads start d.progress standing))
     (sends_bytes c.step-stepped.result c.step-stepped.new.out c.step-stepped.ensures.room)
-    (heard_by c.args.self.now _ c.deliver-ended.new.self c.deliver-ended.result _ _ (ap (λ (l : LinkState). l.driver) c.self.view_is) (ap (λ (l : LinkState). l.tickets) c.self.view_is) (ap (λ (l : LinkState). l.count) c.self.view_is)
+    (heard_by c.args.self.now _ c.deliver-ended.new.self c.deliver-ended.result _ _ (ap (λ (l : LinkState). l.driver) c.self.view_is)
+    (ap (λ (l : LinkState). l.tickets) c.self.view_is) (ap (λ (l : LinkState). l.count) c.self.view_is)
     (ap (λ (l : LinkState). l.lun) c.self.view_is) sent c.deliver-ended.ensures.heard)
 
 pub returns-clause-leads : goal.returns-clause-leads

@@ -1,4 +1,4 @@
-use Rattle.std.proofs.Common.{◌≡◌, ◌++◌, ◌∷◌, [], ◌+◌, true, subst, sym, refl, ap, ◌∙◌}
+use Rattle.std.proofs.Common.{◌≡◌, ◌++◌, ◌∷◌, [], ◌+◌, true, subst, sym, refl, ◌∙◌}
 use Rattle.driver_caches.specs.Machine.{Machine}
 use Rattle.hpb_driver.specs.State.{is_inside}
 use Rattle.hpb_link.specs.State.{LinkState}

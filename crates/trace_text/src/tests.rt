@@ -113,7 +113,10 @@ fn line_of_a_block(rt: HostRuntime) {
     let mut out = [b'.'; 30];
     let count = put_block(70, &[0x00, 0xAB, 0x10], &mut out);
     assert_eq!(rt; count, 12);
-    assert_eq!(rt; out.as_slice(), b"B 70 00ab10\n..................".as_slice());
+    assert_eq!(rt;
+        out.as_slice(),
+        b"B 70 00ab10\n..................".as_slice()
+    );
 }
 
 /// Writes an event over dots.

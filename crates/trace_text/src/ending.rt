@@ -22,24 +22,25 @@ pub enum Ending {
 
 /// Writes the line of an answer to the front of `out`, and answers how many bytes it has.
 pub fn put_ending(number: u32, ending: Ending, out: &mut [u8]) -> usize
-    requires { 32 ≤ length out.old }
+    requires { 40 ≤ length out.old }
     ensures length { result ≡ length (ending_line number ending) }
     ensures written { out.new ≡ ending_line number ending ++ drop result out.old }
-    ensures few { result ≤ 32 }
+    ensures few { result ≤ 40 }
 {
     let mut text = Text::new();
     push_ending(ending, &mut text);
-    let front = put_marked(b"A ", number, out);
+    let front = put_marked(b"A ", number as u64, out);
     let end = put(text.as_slice(), front, out);
     put(b"\n", end, out)
 }
 
-/// Writes the line of a block that a read got to the front of `out`, and answers how many bytes it has.
-pub fn put_block(lba: u32, bytes: &[u8], out: &mut [u8]) -> usize
-    requires { 2 * length bytes.now + 14 ≤ length out.old }
+/// Writes the line of a block that a read got to the front of `out`, and answers how many bytes it has. The number of the
+/// block is wider than an LBA, so that the blocks behind any first one can be counted.
+pub fn put_block(lba: u64, bytes: &[u8], out: &mut [u8]) -> usize
+    requires { 2 * length bytes.now + 24 ≤ length out.old }
     ensures length { result ≡ length (block_line lba bytes.now) }
     ensures written { out.new ≡ block_line lba bytes.now ++ drop result out.old }
-    ensures few { result ≤ 2 * length bytes.now + 14 }
+    ensures few { result ≤ 2 * length bytes.now + 24 }
 {
     let front = put_marked(b"B ", lba, out);
     let end = front + 2 * bytes.len();
@@ -48,14 +49,14 @@ pub fn put_block(lba: u32, bytes: &[u8], out: &mut [u8]) -> usize
 }
 
 /// Writes a mark, a number and a blank to the front of `out`, and answers the place behind them.
-fn put_marked(mark: &[u8], number: u32, out: &mut [u8]) -> usize
+fn put_marked(mark: &[u8], number: u64, out: &mut [u8]) -> usize
     requires two { length mark.now ≡ 2 }
-    requires room { 13 ≤ length out.old }
+    requires room { 23 ≤ length out.old }
     ensures written { Puts out.old out.new 0 result (mark.now ++ decimal number ++ codes " ") }
-    ensures few { result ≤ 13 }
+    ensures few { result ≤ 23 }
 {
     let front = put(mark, 0, out);
-    let end = put_number(number as u64, front, out);
+    let end = put_number(number, front, out);
     put(b" ", end, out)
 }
 

@@ -102,7 +102,7 @@ fn lines_of_endings(rt: HostRuntime) {
         (4, Ending::Cut, "A 4 cut\n"),
         (u32::MAX, Ending::Range, "A 4294967295 range\n"),
     ] {
-        let mut out = [b'.'; 32];
+        let mut out = [b'.'; 40];
         let count = put_ending(number, ending, &mut out);
         assert_eq!(rt; &out[..count], text.as_bytes());
     }
@@ -110,10 +110,10 @@ fn lines_of_endings(rt: HostRuntime) {
 
 #[test]
 fn line_of_a_block(rt: HostRuntime) {
-    let mut out = [b'.'; 22];
+    let mut out = [b'.'; 30];
     let count = put_block(70, &[0x00, 0xAB, 0x10], &mut out);
     assert_eq!(rt; count, 12);
-    assert_eq!(rt; out.as_slice(), b"B 70 00ab10\n..........".as_slice());
+    assert_eq!(rt; out.as_slice(), b"B 70 00ab10\n..................".as_slice());
 }
 
 /// Writes an event over dots.

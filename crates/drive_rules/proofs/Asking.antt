@@ -72,13 +72,13 @@ asked_times : (s : Sizes) (n : ℕ) (d : Drive) → so_far (sent_times s n d) �
 asked_times s zero d = refl
 asked_times s (suc n) d = asked_sent s (sent_times s n d) ∙ asked_times s n d
 
-asked_exchange : (s : Sizes) (d now : Drive) → Exchanges s d now → so_far now ≡ so_far d
+pub asked_exchange : (s : Sizes) (d now : Drive) → Exchanges s d now → so_far now ≡ so_far d
 asked_exchange s d now x = ap so_far x.leads ∙ asked_sent s x.last ∙ ap so_far x.sends ∙ asked_times s x.count d
 
-asked_stepped : (s : Sizes) (g : Group) (d : Drive) → so_far (stepped_by s g d) ≡ so_far d
+pub asked_stepped : (s : Sizes) (g : Group) (d : Drive) → so_far (stepped_by s g d) ≡ so_far d
 asked_stepped s g d = asked_events s (events_of g) d
 
-asked_steps : (s : Sizes) (n : ℕ) (d now : Drive) → DriveSteps s n d now → so_far now ≡ so_far d
+pub asked_steps : (s : Sizes) (n : ℕ) (d now : Drive) → DriveSteps s n d now → so_far now ≡ so_far d
 asked_steps s zero d now is = ap so_far is
 asked_steps s (suc n) d now (mid, before, step) =
     asked_exchange s (stepped_by s step.group mid) now step.exchange ∙ asked_stepped s step.group mid ∙ asked_steps s n d mid before
@@ -90,7 +90,7 @@ asked_pass s d now pass =
 pub asked_drain : (s : Sizes) (d now : Drive) → DrainsTo s d now → so_far now ≡ so_far d
 asked_drain s d now (mid, one, two) = asked_pass s mid now two ∙ asked_pass s d mid one
 
-asked_freed : (s : Sizes) (d free : Drive) → FreesTags s d free → so_far free ≡ so_far d
+pub asked_freed : (s : Sizes) (d free : Drive) → FreesTags s d free → so_far free ≡ so_far d
 asked_freed s d free frees = by_full (nat_le tags (length d.machine.opens)) frees
   where
     by_full : (b : Bool) → MatchBool b (DrainsTo s d free) (free ≡ d) → so_far free ≡ so_far d
@@ -98,7 +98,7 @@ asked_freed s d free frees = by_full (nat_le tags (length d.machine.opens)) free
     by_full false same = ap so_far same
 
 -- a request more
-abbrev one_more : Bool → Request → Requested → Requested
+abbrev pub one_more : Bool → Request → Requested → Requested
 one_more there request d = record {
   requests = d.requests ++ one_request there (d.count + 1) request [];
   outside = d.outside ++ one_outside there (d.count + 1) [];
@@ -114,7 +114,7 @@ asked_requested true request d =
 asked_requested false request d =
     ap (λ (rs : List Numbered). record { requests = rs; outside = d.outside ++ (d.count + 1) ∷ []; count = d.count + 1; lun = d.lun }) (sym (append-nil (numbered d.asked)))
 
-asked_request : (s : Sizes) (there : Bool) (request : Request) (d now : Drive) → Requests s there request d now → so_far now ≡ one_more there request (so_far d)
+pub asked_request : (s : Sizes) (there : Bool) (request : Request) (d now : Drive) → Requests s there request d now → so_far now ≡ one_more there request (so_far d)
 asked_request s there request d now r =
     asked_exchange s (requested there request r.free) now r.exchange ∙ asked_requested there request r.free ∙ ap (one_more there request) (asked_freed s d r.free r.frees)
 
@@ -155,7 +155,7 @@ after_request s there request lines x y is =
     ∙ ap (λ (os : List ℕ). record { requests = x.requests ++ one_request there (x.count + 1) request (requests_of s x.lun (x.count + 1) lines); outside = os })
     (out_then there (x.count + 1) x.outside (outside_of s x.lun (x.count + 1) lines))
 
-asked_collected : (s : Sizes) (n : ℕ) (d now : Drive) → CollectsTo s n d now → so_far now ≡ so_far d
+pub asked_collected : (s : Sizes) (n : ℕ) (d now : Drive) → CollectsTo s n d now → so_far now ≡ so_far d
 asked_collected s zero d now is = ap so_far is
 asked_collected s (suc n) d now (mid, calls, one) = ap so_far one.leads ∙ asked_events s one.group mid ∙ asked_collected s n d mid calls
 

@@ -146,11 +146,11 @@ none_is_waiting (o ∷ os) none = by_test (λ rest. none_is_waiting os rest) (no
     by_test rest true waits none = absurd (some_found o none)
     by_test rest false out none = (is_sent_out o.out out, rest none)
 
-record Silent (opens : List OpenCommand) : Type 0 where
-  next : next_of opens ≡ Nothing
-  out : AllOut opens
+pub record Silent (opens : List OpenCommand) : Type 0 where
+  pub next : next_of opens ≡ Nothing
+  pub out : AllOut opens
 
-silent_of : (s : Sizes) (opens : List OpenCommand) → upiu_of_next s (next_of opens) ≡ None → Silent opens
+pub silent_of : (s : Sizes) (opens : List OpenCommand) → upiu_of_next s (next_of opens) ≡ None → Silent opens
 silent_of s opens silent = by_owing (find owes_data opens) refl silent
   where
     by_waiting : next_of opens ≡ next_waiting (find is_waiting opens) → (x : Option OpenCommand) → find is_waiting opens ≡ x → upiu_of_next s (next_waiting x) ≡ None → Silent opens
@@ -221,7 +221,7 @@ held_handed s steps (Some v) d is = held_events s steps (answers_to s (on_after 
 pub held_send : (s : Sizes) (steps : ℕ) (d : Drive) → Held s steps d → Held s steps (sent s d)
 held_send s steps d is = held_handed s steps (next_upiu s d.machine) (record d { machine = with_next s d.machine }) (held_sent s steps d.machine is)
 
-held_times : (s : Sizes) (steps n : ℕ) (d : Drive) → Held s steps d → Held s steps (sent_times s n d)
+pub held_times : (s : Sizes) (steps n : ℕ) (d : Drive) → Held s steps d → Held s steps (sent_times s n d)
 held_times s steps zero d is = is
 held_times s steps (suc n) d is = held_send s steps (sent_times s n d) (held_times s steps n d is)
 

@@ -2,14 +2,15 @@ use Rattle.std.proofs.Common.{◌≡◌, ◌<◌, ◌≤◌, ℕ, None, refl, sy
 use Rattle.std.proofs.lemmas.Bool.{false≢true}
 use Rattle.trace_text.specs.Lines.{ReaderState}
 use Rattle.flat_unit.specs.Print.{print}
-use Rattle.trace_replay.specs.Run.{CountsFault, SinkEnds, SourceEnds}
-use Rattle.trace_replay.specs.declared.status.Status.TheVariants.{Done, BadLine}
-use Rattle.trace_replay.proofs.Runs.{ran_begins, ran_more, ends_done, ends_unread, ends_bad, ends_last, ends_unwritten, sink_ended, source_ended}
+use Rattle.run_output.specs.Ends.{CountsFault, SinkEnds, SourceEnds}
+use Rattle.run_output.specs.declared.status.Status.TheVariants.{Done, BadLine}
+use Rattle.trace_replay.proofs.Runs.{ran_begins, ran_more, ends_done, ends_unread, ends_bad, ends_last, ends_unwritten}
+use Rattle.run_output.proofs.Ends.{sink_ended, source_ended}
 use Rattle.trace_replay.proofs.Transcripts.{counts_of, ends_in_source}
 use Rattle.hpb_device.specs.State.{DeviceState}
 use Rattle.replay_standing.specs.Standing.{AreCountsOf, Standing}
-use Rattle.trace_replay.specs.Writes.{HasWrittenUpTo}
-use Rattle.trace_replay.proofs.Written.{all_written, keeps_same}
+use Rattle.run_output.specs.Writes.{HasWrittenUpTo}
+use Rattle.run_output.proofs.Written.{all_written, keeps_same}
 use Rattle.trace_replay.proofs.program.replay.Goals as goal
 
 pub loop-number-init : goal.loop-number-init

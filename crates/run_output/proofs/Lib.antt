@@ -1,3 +1,3 @@
-pub mod Ends
+pub mod Ended
 pub mod Gathered
 pub mod Written

@@ -13,7 +13,7 @@ use Rattle.run_output.specs.Ends.{HasMore, LastIs, ReadsAhead}
 use Rattle.run_output.specs.Texts.{bad_line_text, long_text}
 use Rattle.trace_replay.specs.Showing.{IsShownShort, IsUnshown, ShowIs, Shows}
 use Rattle.run_output.specs.Writes.{AppendsFront, HasWrittenUpTo}
-use Rattle.run_output.proofs.Ends.{takes_more}
+use Rattle.run_output.proofs.Ended.{takes_more}
 use Rattle.run_output.proofs.Written.{wordless, nothing_yet}
 
 pub some_of : (o : Option (List ℕ)) → is_some o ≡ true → o ≡ Some (option_map_or (λ (text : List ℕ). text) o [])

@@ -1,7 +1,7 @@
 use Rattle.std.proofs.Common.{◌≡◌, ◌++◌, refl, rules, inr, decimal, codes}
 use Rattle.run_output.specs.Ends.{CountsFault}
 use Rattle.run_output.specs.Texts.{bad_line_text}
-use Rattle.run_output.proofs.Ends.{ends_wordless, last_since}
+use Rattle.run_output.proofs.Ended.{ends_wordless, last_since}
 use Rattle.run_output.proofs.Written.{front_longer, three_more, cut_of, whole_of}
 use Rattle.run_output.proofs.ends.refuse_line.Goals as goal
 

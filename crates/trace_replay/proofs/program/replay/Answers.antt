@@ -5,7 +5,7 @@ use Rattle.flat_unit.specs.Print.{print}
 use Rattle.run_output.specs.Ends.{CountsFault, SinkEnds, SourceEnds}
 use Rattle.run_output.specs.declared.status.Status.TheVariants.{Done, BadLine}
 use Rattle.trace_replay.proofs.Runs.{ran_begins, ran_more, ends_done, ends_unread, ends_bad, ends_last, ends_unwritten}
-use Rattle.run_output.proofs.Ends.{sink_ended, source_ended}
+use Rattle.run_output.proofs.Ended.{sink_ended, source_ended}
 use Rattle.trace_replay.proofs.Transcripts.{counts_of, ends_in_source}
 use Rattle.hpb_device.specs.State.{DeviceState}
 use Rattle.replay_standing.specs.Standing.{AreCountsOf, Standing}

@@ -4,7 +4,7 @@ use Rattle.trace_text.specs.Lines.{ReaderState}
 use Rattle.run_output.specs.Ends.{CountsFault, SinkEnds, SourceEnds}
 use Rattle.run_output.specs.declared.status.Status.TheVariants.{Done, BadLine}
 use Rattle.run_output.proofs.Written.{front_wordless, keeps_same}
-use Rattle.run_output.proofs.Ends.{sink_ended, source_ended}
+use Rattle.run_output.proofs.Ended.{sink_ended, source_ended}
 use Rattle.trace_replay.proofs.Shown.{shows_begin, shows_more, show_done, show_bad, show_last}
 use Rattle.trace_replay.proofs.Transcripts.{ends_in_source}
 use Rattle.trace_replay.proofs.show.show.Goals as goal

@@ -16,6 +16,8 @@ returns c =
     let inside : n ≤ length items = omega (arith, c.deref_mut.ensures.len) in
     let room : n + k ≡ length items = omega arith in
     let filled = with_items_is c.self.inside.text (put_mid n k items out) (length-filled n k items out room (c.put_block-len.auto.out ∙ length-part n k items room) ∙ c.deref_mut.ensures.len) in
-    ap (λ (xs : List ℕ). take (n + c.put_block-len.result) xs) filled
-    ∙ (gathered items out _ _ line n c.put_block-len.result inside c.put_block-len.ensures.written c.put_block-len.ensures.length
-    ∙ (ap (λ (xs : List ℕ). take n xs ++ line) c.deref_mut.ensures.value ∙ ap (λ (xs : List ℕ). xs ++ line) c.self.view_is))
+    record {
+      text = ap (λ (xs : List ℕ). take (n + c.put_block-len.result) xs) filled
+          ∙ (gathered items out _ _ line n c.put_block-len.result inside c.put_block-len.ensures.written c.put_block-len.ensures.length
+          ∙ (ap (λ (xs : List ℕ). take n xs ++ line) c.deref_mut.ensures.value ∙ ap (λ (xs : List ℕ). xs ++ line) c.self.view_is));
+    }

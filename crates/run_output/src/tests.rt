@@ -29,7 +29,7 @@ fn lines_that_are_gathered(rt: HostRuntime) -> Result<(), Fail> {
     let mut output = Output::new(rt.alloc())?;
     output.push_upiu(b'>', bytes);
     output.flush(&mut sink)?;
-    output.push_event(&Event::Moved(3, 12));
+    output.push_event(&Event::Reset);
     output.flush(&mut sink)?;
     output.push_ending(9, Ending::Status(0x28));
     output.flush(&mut sink)?;
@@ -47,34 +47,39 @@ fn lines_that_are_gathered(rt: HostRuntime) -> Result<(), Fail> {
         ..Counts::ZERO
     });
     output.flush(&mut sink)?;
-    let text = "> 00ab10\nM 3:12\nA 9 status 28\nB 70 00ab10\nM 5\nE usage\n\
+    let text = "> 00ab10\nR\nA 9 status 28\nB 70 00ab10\nM 5\nE usage\n\
         T steps=12 lookups=0 entries=7 moved=0 erased=0\n";
     assert_eq!(rt; sink.bytes(), text.as_bytes());
     Ok(())
 }
 
-/// Writes the lines of a step.
-fn step_of(alloc: Global, stepped: Stepped, upiu: &UpiuBuf) -> Result<MemSink, Fail> {
+/// Writes the lines of a step, which has a NOP IN in its room.
+fn step_of(alloc: Global, stepped: Stepped) -> Result<MemSink, Fail> {
+    let mut upiu = UpiuBuf::new();
+    upiu.put_nop_in(5);
     let mut sink = sink_of(alloc, 0)?;
     let mut output = Output::new(alloc)?;
-    push_step(stepped, upiu, &mut output);
+    push_step(stepped, &upiu, &mut output);
     output.flush(&mut sink)?;
     Ok(sink)
 }
 
 #[test]
 fn lines_of_steps(rt: HostRuntime) -> Result<(), Fail> {
-    let mut upiu = UpiuBuf::new();
-    upiu.put_nop_in(5);
-    let line = "< 2000000500000000000000000000000000000000000000000000000000000000\n";
-    for (failed, moved, sent, texts) in [
-        (None, None, false, ["", ""]),
-        (Some(ChipOp::Read), None, true, ["! read\n", line]),
+    for (failed, moved, sent, text) in [
+        (None, None, false, ""),
+        (
+            Some(ChipOp::Program),
+            Some((0, 12)),
+            false,
+            "! program\nM 12\n",
+        ),
         (
             Some(ChipOp::Erase),
-            Some((0, 12)),
+            Some((3, 12)),
             true,
-            ["! erase\nM 12\n", line],
+            "! erase\nM 3:12\n\
+            < 2000000500000000000000000000000000000000000000000000000000000000\n",
         ),
     ] {
         let stepped = Stepped {
@@ -83,9 +88,8 @@ fn lines_of_steps(rt: HostRuntime) -> Result<(), Fail> {
             moved,
             sent,
         };
-        let sink = step_of(rt.alloc(), stepped, &upiu)?;
-        let text = texts[0].as_bytes();
-        assert_eq!(rt; sink.bytes().strip_prefix(text), Some(texts[1].as_bytes()));
+        let sink = step_of(rt.alloc(), stepped)?;
+        assert_eq!(rt; sink.bytes(), text.as_bytes());
     }
     Ok(())
 }

@@ -14,6 +14,7 @@ use Rattle.run_output.specs.Ends.{HasMore, TakesLines}
 use Rattle.trace_replay.specs.Run.{IsBadNext}
 use Rattle.trace_replay.specs.Showing.{IsUnshown}
 use Rattle.run_output.specs.declared.status.Status.TheVariants.{Done, BadLine, LongTrace}
+use Rattle.run_output.proofs.Ended.{first_lines}
 
 -- good lines, and what follows them
 prefix-good : (good : List ℕ → Bool) (texts more : List (List ℕ)) → AllByRecursion (λ (line : List ℕ). good line ≡ true) texts → prefix_len good (texts ++ more) ≡ length texts + prefix_len good more

@@ -13,6 +13,8 @@ use Rattle.trace_text.specs.Grammar.{trace_line}
 use Rattle.trace_text.specs.Lines.{IsLine, TakesLine, EndsAt, WhereTold}
 use Rattle.replay_standing.specs.Standing.{Standing}
 use Rattle.trace_replay.specs.Moments.{Leads, Cuts, CutLineTo}
+use Rattle.run_output.specs.Ends.{HasMore, IsLong, ReadsAhead, StopsWithinLine, TakesLines}
+use Rattle.run_output.specs.Texts.{bad_line_text, counts_text, long_text}
 use Rattle.run_output.specs.Writes.{AppendsFront, HasWrittenUpTo}
 use Rattle.run_output.specs.declared.turn.Turn.{Turn}
 use Rattle.run_output.specs.declared.turn.Turn.TheVariants.{Served, Ended, Bad, Unread, Unwritten}

@@ -10,18 +10,11 @@ use Rattle.trace_text.specs.Lines.{BeginsLong, EndsAt, IsLine, TakesLine, WhereT
 use Rattle.trace_text.specs.Shown.{shown_line}
 use Rattle.trace_text.proofs.LinesOf.{lines_of-long, lines_of-none, lines_of-takes}
 use Rattle.trace_replay.specs.ByText.{is_shown_line, is_trace_line, status_by, status_of}
-use Rattle.trace_replay.specs.Run.{HasMore, IsBadNext, TakesLines}
+use Rattle.run_output.specs.Ends.{HasMore, TakesLines}
+use Rattle.trace_replay.specs.Run.{IsBadNext}
 use Rattle.trace_replay.specs.Showing.{IsUnshown}
-use Rattle.trace_replay.specs.declared.status.Status.TheVariants.{Done, BadLine, LongTrace}
-
--- the lines that were taken of a told text are its first ones
-pub first_lines : (text : List ℕ) (texts : List (List ℕ)) (mid : Option (List ℕ)) → TakesLines (Some text) texts mid
-    → (rest : List ℕ) × (mid ≡ Some rest) × (lines_of text ≡ texts ++ lines_of rest)
-first_lines text [] mid is = (text, is, refl)
-first_lines text (line ∷ texts) mid (None, one, taken, more) = absurd taken
-first_lines text (line ∷ texts) mid (Some left, one, taken, more) =
-    let all = first_lines left texts mid more in
-    (all.0, all.1, lines_of-takes line text left taken ∙ ap (λ (ls : List (List ℕ)). line ∷ ls) all.2)
+use Rattle.run_output.specs.declared.status.Status.TheVariants.{Done, BadLine, LongTrace}
+use Rattle.run_output.proofs.Ended.{first_lines}
 
 -- good lines, and what follows them
 prefix-good : (good : List ℕ → Bool) (texts more : List (List ℕ)) → AllByRecursion (λ (line : List ℕ). good line ≡ true) texts → prefix_len good (texts ++ more) ≡ length texts + prefix_len good more

@@ -16,9 +16,9 @@ use Rattle.hpb_device.specs.Standing.{group_of, sizes_of}
 use Rattle.hpb_device.specs.State.{DeviceState}
 use Rattle.replay_standing.specs.Standing.{Standing}
 use Rattle.trace_replay.specs.Moments.{Leads, Cuts, CutLineTo}
-use Rattle.trace_replay.specs.Writes.{AppendsFront, HasWrittenUpTo}
+use Rattle.run_output.specs.Writes.{AppendsFront, HasWrittenUpTo}
 use Rattle.replay_standing.proofs.Counts.{followed_by-more}
-use Rattle.trace_replay.proofs.Gathered.{events_gathered}
+use Rattle.run_output.proofs.Gathered.{events_gathered}
 use Rattle.replay_standing.proofs.Standing.{run_standing}
 use Rattle.replay_standing.proofs.Collecting.{Calling, Rests, writeless, events_by, idle_standing, events_are, one_event, calls_begin, calls_go_on}
 use Rattle.flat_unit.specs.Sizes.{Sizes}

@@ -14,14 +14,16 @@ use Rattle.trace_replay.specs.ByText.{is_shown_line, is_trace_line, status_of}
 use Rattle.trace_replay.specs.Headline.{AreLastWords, DrainsAll, EndsByText, Tells}
 use Rattle.hpb_device.specs.declared.counts.Counts.{Counts}
 use Rattle.flash_pages.specs.Chip.{Page}
-use Rattle.trace_replay.specs.Run.{IsCutShort, IsPlanned, ProgramIs, RunIs, SinkEnds, SourceEnds, bad_line_text, counts_text, long_text}
+use Rattle.trace_replay.specs.Run.{IsCutShort, IsPlanned, ProgramIs, RunIs}
+use Rattle.run_output.specs.Ends.{SinkEnds, SourceEnds}
+use Rattle.run_output.specs.Texts.{bad_line_text, counts_text, long_text}
 use Rattle.trace_replay.specs.Showing.{ShowIs, ShowProgramIs}
 use Rattle.replay_standing.specs.Transcript.{IsChipOf, IsPlain, IsTranscript, SendsUnready, sizes_on, unit_on}
 use Rattle.trace_replay.specs.Words.{named_unit}
-use Rattle.trace_replay.specs.declared.status.Status.{Status}
-use Rattle.trace_replay.specs.declared.status.Status.TheVariants.{Done, BadLine, ReadFault, WriteFault, LongTrace, Usage, Memory, Geometry as BadGeometry, ChipFault, BadImage, BadCapture}
+use Rattle.run_output.specs.declared.status.Status.{Status}
+use Rattle.run_output.specs.declared.status.Status.TheVariants.{Done, BadLine, ReadFault, WriteFault, LongTrace, Usage, Memory, Geometry as BadGeometry, ChipFault, BadImage, BadCapture}
 use Rattle.trace_replay.proofs.ByText.{all_parsed, all_shown, begins_bad, begins_unshown, told_bad, told_done, told_long}
-use Rattle.trace_replay.proofs.Written.{appends_nothing}
+use Rattle.run_output.proofs.Written.{appends_nothing}
 
 worded : (a b : Option (List ℕ)) (text : List ℕ) → Appends a b text → Appends a b (text ++ [])
 worded a b text = subst (Appends a b) (sym (append-nil text))

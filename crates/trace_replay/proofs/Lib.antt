@@ -1,7 +1,6 @@
 pub mod ByText
 pub mod Collecting
 pub mod Draining
-pub mod Gathered
 pub mod Headline
 pub mod Making
 pub mod Numbers
@@ -13,4 +12,3 @@ pub mod Shown
 pub mod Told
 pub mod Transcripts
 pub mod Turns
-pub mod Written

@@ -1,7 +1,7 @@
 -- A run goes on line by line, and how it ends.
-use Rattle.std.proofs.Common.{◌≡◌, ℕ, ◌+◌, ◌<◌, ◌≤◌, List, [], ◌∷◌, ◌++◌, Option, Some, None, refl, sym, ◌∙◌, ap, subst, arith, inl, inr, ◌⊎◌, length-append}
-use Rattle.std.proofs.lemmas.List.{append_assoc, append-nil, map-append}
-use Rattle.std.specs.Io.KnownBytes.{Appends, Keeps, prepend_known}
+use Rattle.std.proofs.Common.{◌≡◌, ℕ, ◌+◌, ◌<◌, ◌≤◌, List, [], ◌∷◌, ◌++◌, Option, Some, refl, sym, ◌∙◌, ap, subst, arith, inl, inr, ◌⊎◌, length-append}
+use Rattle.std.proofs.lemmas.List.{map-append}
+use Rattle.std.specs.Io.KnownBytes.{Appends}
 use Rattle.flat_unit.specs.Print.{print}
 use Rattle.flat_unit.specs.Replays.{Progress, LineTo, Replays, begun}
 use Rattle.flat_unit.proofs.contents.ReadsEnd.{drains_end_reads}
@@ -17,23 +17,21 @@ use Rattle.hpb_device.specs.Counts.{no_counts}
 use Rattle.hpb_device.specs.State.{DeviceState}
 use Rattle.trace_text.specs.Grammar.{trace_line}
 use Rattle.trace_text.specs.Lines.{IsLine, TakesLine, EndsAt, WhereTold}
-use Rattle.trace_replay.specs.declared.status.Status.{Status}
-use Rattle.trace_replay.specs.declared.status.Status.TheVariants.{Done, BadLine, ReadFault, WriteFault, LongTrace, Usage, Memory, Geometry, ChipFault, BadImage, BadCapture}
+use Rattle.run_output.specs.declared.status.Status.{Status}
+use Rattle.run_output.specs.declared.status.Status.TheVariants.{Done, BadLine, ReadFault, WriteFault, LongTrace, Usage, Memory, Geometry, ChipFault, BadImage, BadCapture}
 use Rattle.replay_standing.specs.Standing.{Standing}
 use Rattle.trace_replay.specs.Moments.{Leads, Cuts}
-use Rattle.trace_replay.specs.Run.{CountsFault, HasMore, IsBadNext, IsCutNext, IsCutShort, LastIs, Ran, ReadsAhead, RunIs, SinkEnds, SourceEnds, StopsWithinLine, TakesLines, bad_line_text, counts_text, long_text}
-use Rattle.trace_replay.specs.Writes.{AppendsFront, HasWrittenUpTo}
-use Rattle.trace_replay.proofs.Written.{gathers_more, nothing_yet}
+use Rattle.run_output.specs.Ends.{HasMore, LastIs, ReadsAhead, StopsWithinLine}
+use Rattle.trace_replay.specs.Run.{IsBadNext, IsCutNext, IsCutShort, Ran, RunIs}
+use Rattle.run_output.specs.Texts.{bad_line_text, counts_text, long_text}
+use Rattle.run_output.specs.Writes.{AppendsFront, HasWrittenUpTo}
+use Rattle.run_output.proofs.Written.{front_wordless, nothing_yet}
+use Rattle.run_output.proofs.Ended.{takes_more}
 use Rattle.replay_standing.proofs.Beginning.{sound_at, begun_standing}
 
 -- what holds between two lines
 abbrev pub StandsAndPrinted : (start now : DeviceState) (before written : Option (List ℕ)) (gathered : List ℕ) → Progress → Type 0
 StandsAndPrinted start now before written gathered p = Standing start now p × HasWrittenUpTo before written (print p.events) gathered
-
-pub takes_more : (left : Option (List ℕ)) (texts : List (List ℕ)) (mid now : Option (List ℕ)) (text : List ℕ) → TakesLines left texts mid → IsLine text → WhereTold (TakesLine text) mid now
-    → TakesLines left (texts ++ text ∷ []) now
-takes_more left [] mid now text same line takes = (now, line, subst (λ (from : Option (List ℕ)). WhereTold (TakesLine text) from now) same takes, refl)
-takes_more left (t ∷ texts) mid now text taken line takes = (taken.0, taken.1, taken.2, takes_more taken.0 texts mid now text taken.3 line takes)
 
 pub ran_begins : (start : DeviceState) (left w : Option (List ℕ)) (gathered : List ℕ) → start.tasks ≡ [] → start.counts ≡ no_counts → HintsStand start [] → ListsStand start [] → CountsStand start [] → start.store.scanned ≡ 0
     → Rattle.std.proofs.Common.◌≤◌ 1 start.store.geometry.pages → gathered ≡ []
@@ -84,22 +82,6 @@ ran_with s left now n facts others ran shows = record {
   replays = ran.replays;
   drains = ran.drains;
   shows = shows;
-}
-
--- no last words
-pub wordless : (a b : Option (List ℕ)) (text : List ℕ) → Appends a b (text ++ []) → Appends a b text
-wordless a b text = subst (Appends a b) (append-nil text)
-
-pub front_wordless : (a b : Option (List ℕ)) (text : List ℕ) → AppendsFront a b text → AppendsFront a b (text ++ [])
-front_wordless a b text = subst (AppendsFront a b) (sym (append-nil text))
-
--- a front of a text is one of a longer text
-pub front_longer : (a b : Option (List ℕ)) (text words : List ℕ) → AppendsFront a b text → AppendsFront a b (text ++ words)
-front_longer a b text words cut = record {
-  front = cut.front;
-  rest = cut.rest ++ words;
-  parts = sym (append_assoc cut.front cut.rest words) ∙ ap (λ (l : List ℕ). l ++ words) cut.parts;
-  appended = cut.appended;
 }
 
 module _ (s : Sizes) (good : Progress → Type 0) (counted : Progress → Counts → Type 0) (left mid left_now before written : Option (List ℕ)) (limit n : ℕ) (facts : Progress
@@ -165,51 +147,3 @@ pub ends_unwritten : (s : Sizes) (good : Progress → Type 0) (counted : Progres
     → n < limit → (cuts : Cuts (IsCutNext s mid ran.moment) start new before written) → good cuts.moment → RunIs s good counted left left_now before written limit WriteFault
 ends_unwritten s good counted left mid left_now before written limit n facts ran start new few cuts still =
     (mid, n, cuts.moment, [], ran_with s left mid n facts (λ p. IsCutShort s counted mid limit n p cuts.moment []) ran (inl (cuts.reached, omega arith, λ all. absurd (omega arith), refl)), still, front_wordless before written (print cuts.moment.events) cuts.printed)
-
--- what a last text leaves of the count of the sink's faults, and of the source's
-pub sink_ended : {A B : Type 0} (before now : ℕ) (result status : Status) → (now ≡ before → SinkEnds before now status) → ((result ≡ status) × A × (now ≡ before))
-    ⊎ ((result ≡ WriteFault) × B × CountsFault before now) → SinkEnds before now result
-sink_ended before now result status same (inl (is, _, none)) = subst (SinkEnds before now) (sym is) (same none)
-sink_ended before now result status same (inr (is, _, one)) = subst (SinkEnds before now) (sym is) one
-
-pub source_ended : {A B C D : Type 0} (before now : ℕ) (result status : Status) → SourceEnds before now status → now ≡ before → ((result ≡ status) × A × B) ⊎ ((result ≡ WriteFault) × C × D)
-    → SourceEnds before now result
-source_ended before now result status holds same (inl (is, _, _)) = subst (SourceEnds before now) (sym is) holds
-source_ended before now result status holds same (inr (is, _, _)) = subst (SourceEnds before now) (sym is) same
-
--- what a text that is gathered behind others leaves
-pub last_since : {A B : Type 0} (before mid now : ℕ) (result status : Status) → mid ≡ before → ((result ≡ status) × A × (now ≡ mid)) ⊎ ((result ≡ WriteFault) × B × CountsFault mid now)
-    → ((result ≡ status) × A × (now ≡ before)) ⊎ ((result ≡ WriteFault) × B × CountsFault before now)
-last_since before mid now result status same (inl (is, all, none)) = inl (is, all, none ∙ same)
-last_since before mid now result status same (inr (is, cut, one)) = inr (is, cut, subst (λ (n : ℕ). CountsFault n now) same one)
-
-pub ends_wordless : {A B : Type 0} (a b : Option (List ℕ)) (text : List ℕ) (result status : Status) → ((result ≡ status) × Appends a b (text ++ []) × A)
-    ⊎ ((result ≡ WriteFault) × AppendsFront a b (text ++ []) × B)
-    → ((result ≡ status) × Appends a b text × A) ⊎ ((result ≡ WriteFault) × AppendsFront a b text × B)
-ends_wordless a b text result status (inl (is, all, same)) = inl (is, wordless a b text all, same)
-ends_wordless a b text result status (inr (is, cut, rises)) = inr (is, subst (AppendsFront a b) (append-nil text) cut, rises)
-
--- three texts that are gathered one after another
-pub three_more : (before written : Option (List ℕ)) (text gathered one two three a b c : List ℕ) → HasWrittenUpTo before written text gathered → one ≡ gathered ++ a → two ≡ one ++ b → three ≡ two ++ c
-    → HasWrittenUpTo before written (text ++ (a ++ b ++ c)) three
-three_more before written text gathered one two three a b c so_far is_one is_two is_three =
-    let all = gathers_more before written ((text ++ a) ++ b) ((gathered ++ a) ++ b) c (gathers_more before written (text ++ a) (gathered ++ a) b (gathers_more before written text gathered a so_far)) in
-    let grouped : ((text ++ a) ++ b) ++ c ≡ text ++ ((a ++ b) ++ c) = ap (λ (l : List ℕ). l ++ c) (append_assoc text a b) ∙ append_assoc text (a ++ b) c in
-    rw (is_three, is_two, is_one) (subst (λ (l : List ℕ). HasWrittenUpTo before written l (((gathered ++ a) ++ b) ++ c)) grouped all)
-
--- a text whose rest is held, and isn't at its end
-pub more_of : (text : Option (List ℕ)) (held : List ℕ) (left : Option (List ℕ)) → Keeps text (prepend_known held left) → (held ≡ [] → ⊥) → HasMore text
-more_of None held left same some = tt
-more_of (Some xs) held None same some = absurd same
-more_of (Some xs) [] (Some rest) same some = absurd (some refl)
-more_of (Some xs) (x ∷ held) (Some rest) same some = λ none. is_none (same ∙ none)
-  where
-    is_none : x ∷ (held ++ rest) ≡ [] → ⊥
-    is_none is = cc
-
--- the last words of a trace that is too long
-pub last_long : {A B : Type 0} (before new : Option (List ℕ)) (text : List ℕ) (left left_now : Option (List ℕ)) (result : Status) → HasMore left → ReadsAhead left left_now
-    → ((result ≡ LongTrace) × Appends before new (text ++ long_text) × A) ⊎ ((result ≡ WriteFault) × AppendsFront before new (text ++ long_text) × B) → LastIs before new text left left_now result
-last_long before new text left left_now result more ahead (inl (is, all, _)) = subst (LastIs before new text left left_now) (sym is) (all, more, ahead)
-last_long before new text left left_now result more ahead (inr (is, cut, _)) =
-    subst (LastIs before new text left left_now) (sym is) (long_text, inr (refl, more), cut)

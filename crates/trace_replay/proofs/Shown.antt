@@ -1,19 +1,20 @@
 -- `show` goes on line by line, and how it ends.
-use Rattle.std.proofs.Common.{◌≡◌, ℕ, ◌+◌, ◌<◌, ◌≤◌, true, false, List, [], ◌∷◌, ◌++◌, length, Option, Some, None, refl, sym, ◌∙◌, ap, subst, arith, inl, inr, ◌⊎◌, length-append}
-use Rattle.std.specs.Prelude.{flat_map, is_some, option_map, IfSome}
+use Rattle.std.proofs.Common.{◌≡◌, ℕ, ◌+◌, ◌<◌, ◌≤◌, true, false, List, [], ◌∷◌, ◌++◌, Option, Some, None, refl, sym, ◌∙◌, ap, subst, arith, inl, inr, ◌⊎◌, length-append}
+use Rattle.std.specs.Prelude.{flat_map, is_some}
 use Rattle.std.specs.Option.{option_map_or}
 use Rattle.std.proofs.lemmas.List.{append_assoc, append-nil, map-append}
 use Rattle.std.proofs.lemmas.Bool.{false≢true}
 use Rattle.std.specs.Io.KnownBytes.{Appends}
 use Rattle.trace_text.specs.Lines.{IsLine, TakesLine, EndsAt, WhereTold}
 use Rattle.trace_text.specs.Shown.{shown_line}
-use Rattle.trace_replay.specs.declared.status.Status.{Status}
-use Rattle.trace_replay.specs.declared.status.Status.TheVariants.{Done, BadLine, ReadFault, WriteFault, LongTrace, Usage, Memory, Geometry, ChipFault, BadImage, BadCapture}
-use Rattle.trace_replay.specs.Run.{HasMore, LastIs, ReadsAhead, bad_line_text, long_text}
+use Rattle.run_output.specs.declared.status.Status.{Status}
+use Rattle.run_output.specs.declared.status.Status.TheVariants.{Done, BadLine, ReadFault, WriteFault, LongTrace, Usage, Memory, Geometry, ChipFault, BadImage, BadCapture}
+use Rattle.run_output.specs.Ends.{HasMore, LastIs, ReadsAhead}
+use Rattle.run_output.specs.Texts.{bad_line_text, long_text}
 use Rattle.trace_replay.specs.Showing.{IsShownShort, IsUnshown, ShowIs, Shows}
-use Rattle.trace_replay.specs.Writes.{AppendsFront, HasWrittenUpTo}
-use Rattle.trace_replay.proofs.Runs.{takes_more, wordless}
-use Rattle.trace_replay.proofs.Written.{nothing_yet}
+use Rattle.run_output.specs.Writes.{AppendsFront, HasWrittenUpTo}
+use Rattle.run_output.proofs.Ended.{takes_more}
+use Rattle.run_output.proofs.Written.{wordless, nothing_yet}
 
 pub some_of : (o : Option (List ℕ)) → is_some o ≡ true → o ≡ Some (option_map_or (λ (text : List ℕ). text) o [])
 some_of None some = absurd (false≢true some)
@@ -85,15 +86,3 @@ module _ (left mid left_now before written : Option (List ℕ)) (limit n : ℕ) 
   show_last ChipFault all none = absurd none
   show_last (BadImage fault) all none = absurd none
   show_last (BadCapture offset fault) all none = absurd none
-
--- the text of a line that is shown, by how long it is
-pub text_of_count : (o : Option (List ℕ)) (count : ℕ) (P : List ℕ → Type 0) → Some count ≡ option_map length o → IfSome o P → P (option_map_or (λ (text : List ℕ). text) o [])
-    × (count ≡ length (option_map_or (λ (text : List ℕ). text) o []))
-text_of_count None count P is told = absurd (no_count is)
-  where
-    no_count : {n : ℕ} → Some n ≡ None → ⊥
-    no_count e = cc
-text_of_count (Some text) count P is told = (told, same is)
-  where
-    same : {a b : ℕ} → Some a ≡ Some b → a ≡ b
-    same e = cc

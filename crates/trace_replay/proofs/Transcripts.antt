@@ -32,7 +32,7 @@ use Rattle.flash_store.specs.Index.{CanServe}
 use Rattle.region_state.specs.Shape.{IsWithinLimits}
 use Rattle.trace_replay.specs.Options.{cut_shape}
 use Rattle.trace_replay.specs.Run.{IsNamed, IsPlanned, ProgramIs, RunIs, geometry_text}
-use Rattle.trace_replay.specs.Writes.{AppendsFront}
+use Rattle.run_output.specs.Writes.{AppendsFront}
 use Rattle.trace_replay.specs.Showing.{ShowIs, ShowProgramIs}
 use Rattle.flat_unit.specs.Counts.{Counted}
 use Rattle.flat_unit.specs.Hints.{Hinted}
@@ -40,8 +40,8 @@ use Rattle.hpb_device.proofs.CountingCalls.{counted_of}
 use Rattle.replay_standing.specs.Transcript.{AreCounts, AreCountsOn, FitTranscript, HasNoMore, IsChipOf, IsRefused, IsServed, IsTranscript, SendsUnready, has_page, sizes_on, unit_on}
 use Rattle.trace_replay.specs.Words.{IsReplay, named_chip, named_unit}
 use Rattle.region_state.specs.declared.shape.Shape.{Shape}
-use Rattle.trace_replay.specs.declared.status.Status.{Status}
-use Rattle.trace_replay.specs.declared.status.Status.TheVariants.{Done, BadLine, ReadFault, WriteFault, LongTrace, Usage, Memory, Geometry as BadGeometry, ChipFault, BadImage, BadCapture}
+use Rattle.run_output.specs.declared.status.Status.{Status}
+use Rattle.run_output.specs.declared.status.Status.TheVariants.{Done, BadLine, ReadFault, WriteFault, LongTrace, Usage, Memory, Geometry as BadGeometry, ChipFault, BadImage, BadCapture}
 use Rattle.trace_replay.proofs.Runs.{ran_with}
 
 -- a device that was made over a chip

@@ -1,31 +1,19 @@
 -- What a line of the text comes to.
-use Rattle.std.proofs.Common.{◌≡◌, ℕ, length, take, List, ◌++◌, Option, Some, None, ◌∙◌, ap, subst, inr, refl}
-use Rattle.std.proofs.lemmas.List.{append_assoc}
+use Rattle.std.proofs.Common.{◌≡◌, ℕ, length, take, List, ◌++◌, Option, Some, subst, inr, refl}
 use Rattle.std.proofs.Math.Seq.{take-append_seam}
-use Rattle.std.specs.Io.KnownBytes.{Keeps, prepend_known}
 use Rattle.flat_unit.specs.Replays.{Progress, LineTo, with_run}
 use Rattle.flat_unit.specs.Trace.{Line, Blank}
 use Rattle.hpb_device.specs.Standing.{sizes_of}
 use Rattle.hpb_device.specs.State.{DeviceState}
 use Rattle.trace_text.specs.Grammar.{trace_line}
-use Rattle.trace_text.specs.Lines.{IsLine, TakesLine, BeginsLong, WhereTold}
+use Rattle.trace_text.specs.Lines.{IsLine, TakesLine, WhereTold}
 use Rattle.trace_replay.specs.Moments.{Leads, Cuts, CutLineTo}
-use Rattle.trace_replay.specs.Run.{IsLong, TurnAt}
-use Rattle.trace_replay.specs.declared.replay.Turn.TheVariants.{Served, Unwritten}
+use Rattle.trace_replay.specs.Run.{TurnAt}
+use Rattle.run_output.specs.declared.turn.Turn.TheVariants.{Served, Unwritten}
 use Rattle.flat_unit.specs.Print.{print}
 use Rattle.replay_standing.specs.Standing.{Standing}
-use Rattle.trace_replay.specs.Writes.{HasWrittenUpTo}
+use Rattle.run_output.specs.Writes.{HasWrittenUpTo}
 use Rattle.replay_standing.proofs.Standing.{run_standing}
-
--- a text whose begin is held is too long where those bytes are
-long_before : (held left : List ℕ) → BeginsLong held → BeginsLong (held ++ left)
-long_before held left (front, rest, is, long, within) =
-    (front, rest ++ left, ap (λ (xs : List ℕ). xs ++ left) is ∙ append_assoc front rest left, long, within)
-
-pub long_text_of : (text : Option (List ℕ)) (held : List ℕ) (left : Option (List ℕ)) → Keeps text (prepend_known held left) → BeginsLong held → IsLong text
-long_text_of None held left same long = tt
-long_text_of (Some xs) held None same long = absurd same
-long_text_of (Some xs) held (Some rest) same long = subst BeginsLong same (long_before held rest long)
 
 -- a line that was taken and parsed is served or cut
 pub turn_served : (start : DeviceState) (before : Option (List ℕ)) (p : Progress) (old new : DeviceState) (left left_now written : Option (List ℕ)) (gathered : List ℕ) (text : List ℕ) (line : Line)

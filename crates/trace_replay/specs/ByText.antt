@@ -4,8 +4,8 @@ use Rattle.std.specs.List.{prefix_len}
 use Rattle.trace_text.specs.Grammar.{trace_line}
 use Rattle.trace_text.specs.Lines.{lines_of}
 use Rattle.trace_text.specs.Shown.{shown_line}
-use Rattle.trace_replay.specs.declared.status.Status.{Status}
-use Rattle.trace_replay.specs.declared.status.Status.TheVariants.{Done, BadLine, LongTrace}
+use Rattle.run_output.specs.declared.status.Status.{Status}
+use Rattle.run_output.specs.declared.status.Status.TheVariants.{Done, BadLine, LongTrace}
 
 -- a line of a trace: at most 131,200 bytes, and in the grammar
 abbrev pub is_trace_line : List ℕ → Bool

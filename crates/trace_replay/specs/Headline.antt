@@ -12,11 +12,12 @@ use Rattle.trace_text.specs.Grammar.{trace_line}
 use Rattle.trace_text.specs.Lines.{EndsAt, WhereTold}
 use Rattle.trace_replay.specs.ByText.{status_of}
 use Rattle.hpb_device.specs.declared.counts.Counts.{Counts}
-use Rattle.trace_replay.specs.Run.{TakesLines, bad_line_text, counts_text, long_text}
+use Rattle.run_output.specs.Ends.{TakesLines}
+use Rattle.run_output.specs.Texts.{bad_line_text, counts_text, long_text}
 use Rattle.replay_standing.specs.Transcript.{IsPlain}
-use Rattle.trace_replay.specs.Writes.{AppendsFront}
-use Rattle.trace_replay.specs.declared.status.Status.{Status}
-use Rattle.trace_replay.specs.declared.status.Status.TheVariants.{Memory, WriteFault}
+use Rattle.run_output.specs.Writes.{AppendsFront}
+use Rattle.run_output.specs.declared.status.Status.{Status}
+use Rattle.run_output.specs.declared.status.Status.TheVariants.{Memory, WriteFault}
 
 -- a text was written, or a front of it where the sink failed
 abbrev pub IsWritten : Status → (old new : Option (List ℕ)) → (text : List ℕ) → Type 0

@@ -4,7 +4,5 @@ pub mod Headline
 pub mod Limits
 pub mod Run
 pub mod Showing
-pub mod Status
 pub mod Words
-pub mod Writes
 pub mod Options

@@ -1,7 +1,6 @@
 -- What a run of a trace leaves.
-use Rattle.std.specs.Prelude.{◌≡◌, ◌⊎◌, ℕ, ◌+◌, ◌<◌, ◌≤◌, ⊤, List, [], ◌∷◌, ◌++◌, map, length, Option, Some, None, codes, decimal}
-use Rattle.std.specs.Io.KnownBytes.{Appends, Keeps, prepend_known}
-use Rattle.hpb_outside.specs.Faults.{Rose}
+use Rattle.std.specs.Prelude.{◌≡◌, ◌⊎◌, ℕ, ◌+◌, ◌<◌, ◌≤◌, List, [], ◌++◌, map, length, Option, Some, None, codes}
+use Rattle.std.specs.Io.KnownBytes.{Appends, Keeps}
 use Rattle.flat_unit.specs.Print.{print}
 use Rattle.flat_unit.specs.Reads.{DrainsReads}
 use Rattle.flat_unit.specs.Replays.{Progress, begun, LineTo, Replays}
@@ -11,78 +10,26 @@ use Rattle.hpb_device.specs.Standing.{sizes_of}
 use Rattle.hpb_device.specs.declared.counts.Counts.{Counts}
 use Rattle.hpb_device.specs.State.{DeviceState}
 use Rattle.trace_text.specs.Grammar.{trace_line}
-use Rattle.trace_text.specs.Lines.{IsLine, IsWithinLine, TakesLine, EndsAt, BeginsLong, WhereTold}
-use Rattle.trace_text.specs.Written.{counts_line}
+use Rattle.trace_text.specs.Lines.{IsLine, TakesLine, EndsAt, WhereTold}
 use Rattle.replay_standing.specs.Standing.{Standing}
 use Rattle.trace_replay.specs.Moments.{Leads, Cuts, CutLineTo}
-use Rattle.trace_replay.specs.Writes.{AppendsFront, HasWrittenUpTo}
-use Rattle.trace_replay.specs.declared.replay.Turn.{Turn}
-use Rattle.trace_replay.specs.declared.replay.Turn.TheVariants.{Served, Ended, Bad, Unread, Unwritten}
-use Rattle.trace_replay.specs.declared.status.Status.{Status}
-use Rattle.trace_replay.specs.declared.status.Status.TheVariants.{Done, BadLine, ReadFault, WriteFault, LongTrace, Usage, Geometry as BadGeometry, Memory}
+use Rattle.run_output.specs.Ends.{HasMore, IsLong, ReadsAhead, StopsWithinLine, TakesLines}
+use Rattle.run_output.specs.Texts.{bad_line_text, counts_text, long_text}
+use Rattle.run_output.specs.Writes.{AppendsFront, HasWrittenUpTo}
+use Rattle.run_output.specs.declared.turn.Turn.{Turn}
+use Rattle.run_output.specs.declared.turn.Turn.TheVariants.{Served, Ended, Bad, Unread, Unwritten}
+use Rattle.run_output.specs.declared.status.Status.{Status}
+use Rattle.run_output.specs.declared.status.Status.TheVariants.{Done, BadLine, ReadFault, WriteFault, LongTrace, Usage, Geometry as BadGeometry, Memory}
 use Rattle.flash_pages.specs.declared.chip.Geometry.{Geometry}
 use Rattle.flash_store.specs.Index.{CanServe}
 use Rattle.region_state.specs.Shape.{IsWithinLimits}
 use Rattle.replay_standing.specs.Transcript.{sizes_on}
 use Rattle.trace_replay.specs.Words.{IsReplay, named_chip, named_unit}
 
--- one fault was counted, but where the count stands at its last value
-pub record CountsFault (before now : ℕ) : Type 0 where
-  pub later : before ≤ now
-  pub rose : Rose before now
-  pub once : now ≤ before + 1
-
--- a fault of the source is counted at a turn that could not read, and at no other
-abbrev pub SourceFaults : (before now : ℕ) → Turn → Type 0
-SourceFaults before now Unread = CountsFault before now
-SourceFaults before now _ = now ≡ before
-
--- and one of the sink at a turn that could not write
-abbrev pub SinkFaults : (before now : ℕ) → Turn → Type 0
-SinkFaults before now Unwritten = CountsFault before now
-SinkFaults before now _ = now ≡ before
-
--- a run counts a fault of its source where it ends with one, and at no other status
-abbrev pub SourceEnds : (before now : ℕ) → Status → Type 0
-SourceEnds before now ReadFault = CountsFault before now
-SourceEnds before now _ = now ≡ before
-
--- and likewise of its sink
-abbrev pub SinkEnds : (before now : ℕ) → Status → Type 0
-SinkEnds before now WriteFault = CountsFault before now
-SinkEnds before now _ = now ≡ before
-
--- these lines were taken, one after another
-abbrev pub TakesLines : Option (List ℕ) → List (List ℕ) → Option (List ℕ) → Type 0
-TakesLines left [] now = now ≡ left
-TakesLines left (text ∷ texts) now = (mid : Option (List ℕ)) × IsLine text × WhereTold (TakesLine text) left mid
-    × TakesLines mid texts now
-
--- a text that is told begins with a line that is too long
-abbrev pub IsLong : Option (List ℕ) → Type 0
-IsLong None = ⊤
-IsLong (Some text) = BeginsLong text
-
--- a text that is told isn't at its end
-abbrev pub HasMore : Option (List ℕ) → Type 0
-HasMore None = ⊤
-HasMore (Some text) = ¬ (text ≡ [])
-
 -- the next line is too long, and nothing was taken; or it was taken and is none of a trace. This is what follows what was taken.
 abbrev pub IsBadNext : (left behind : Option (List ℕ)) → Type 0
 IsBadNext left behind = (IsLong left × Keeps left behind)
     ⊎ ((text : List ℕ) × WhereTold (TakesLine text) left behind × (trace_line text ≡ None))
-
--- some bytes were read and not taken, and what is left in the source follows them
-abbrev pub ReadsAhead : (rest source_left : Option (List ℕ)) → Type 0
-ReadsAhead rest source_left = (held : List ℕ) × Keeps rest (prepend_known held source_left)
-
--- the source failed within a line: what was read of it is no whole line, and what is left in the source follows
-pub record StopsWithinLine (rest source_left : Option (List ℕ)) : Type 0 where
-  pub held : List ℕ
-  pub within : IsWithinLine held
-  pub size : length held ≤ 131200
-  pub follows : Keeps rest (prepend_known held source_left)
 
 -- the sink failed before the next line was taken, or after one of the calls that serve it
 abbrev pub IsCutNext : Sizes → Option (List ℕ) → Progress → Progress → Type 0
@@ -122,18 +69,6 @@ pub record Ran (s : Sizes) (left now : Option (List ℕ)) (count : ℕ) (facts :
   pub drains : DrainsReads s lines begun moment
   pub shows : facts moment
 
--- the last words of a run
-abbrev pub bad_line_text : ℕ → List ℕ
-bad_line_text number = codes "E line " ++ decimal number ++ codes "\n"
-
-abbrev pub long_text : List ℕ
-long_text = codes "E long\n"
-
--- the last line of a trace that was taken whole
-abbrev pub counts_text : Counts → List ℕ
-counts_text counts =
-    counts_line (counts.steps ∷ counts.lookups ∷ counts.entries ∷ counts.moved ∷ counts.erased ∷ [])
-
 -- What a run had to write when its sink failed, where so many lines were taken and served: the text of the next line as far
 -- as it was served, or of all of them with the last words.
 abbrev pub IsCutShort : Sizes → (counted : Progress → Counts → Type 0) → (mid : Option (List ℕ)) → (limit n : ℕ)
@@ -168,29 +103,6 @@ RunIs s good counted left left_now written written_now limit WriteFault =
     × Ran s left mid n (λ p. IsCutShort s counted mid limit n p last words) × good last
     × AppendsFront written written_now (print last.events ++ words)
 RunIs s good counted left left_now written written_now limit _ = ⊥
-
--- a text and last words were written, and the status is this; or a front of them, where the sink failed
-abbrev pub Finishes : (old new : Option (List ℕ)) (gathered words : List ℕ) (faults faults_now : ℕ) (status result : Status) → Type 0
-Finishes old new gathered words faults faults_now status result = (before : Option (List ℕ)) (text : List ℕ)
-    → HasWrittenUpTo before old text gathered
-    → ((result ≡ status) × Appends before new (text ++ words) × (faults_now ≡ faults))
-    ⊎ ((result ≡ WriteFault) × AppendsFront before new (text ++ words) × CountsFault faults faults_now)
-
--- how a text ends after the last line that a trace may have
-abbrev pub LastIs : (before new : Option (List ℕ)) (text : List ℕ) (left left_now : Option (List ℕ)) → Status → Type 0
-LastIs before new text left left_now Done = Appends before new text × WhereTold EndsAt left left_now
-LastIs before new text left left_now LongTrace = Appends before new (text ++ long_text) × HasMore left
-    × ReadsAhead left left_now
-LastIs before new text left left_now ReadFault = Appends before new text × StopsWithinLine left left_now
-LastIs before new text left left_now WriteFault =
-    (words : List ℕ) × ((words ≡ []) ⊎ ((words ≡ long_text) × HasMore left)) × AppendsFront before new (text ++ words)
-LastIs before new text left left_now _ = ⊥
-
-abbrev pub EndsLong : (old new : Option (List ℕ)) (gathered : List ℕ) (left left_now : Option (List ℕ)) → Status
-    → Type 0
-EndsLong old new gathered left left_now result = (before : Option (List ℕ)) (text : List ℕ)
-    → HasWrittenUpTo before old text gathered
-    → LastIs before new text left left_now result
 
 abbrev pub usage_text : List ℕ
 usage_text = codes "E usage\n"

@@ -1,19 +1,15 @@
 -- What `show` leaves of a text: the line that each of its lines is shown as.
 use Rattle.std.specs.Prelude.{◌≡◌, ◌⊎◌, ℕ, ◌+◌, ◌<◌, ◌≤◌, List, [], ◌++◌, map, flat_map, length, Option, Some, None}
-use Rattle.std.specs.Option.{option_map_or}
 use Rattle.std.specs.Io.KnownBytes.{Appends, Keeps}
 use Rattle.trace_text.specs.Lines.{IsLine, TakesLine, EndsAt, WhereTold}
 use Rattle.trace_text.specs.Shown.{shown_line}
-use Rattle.trace_replay.specs.Run.{HasMore, IsLong, ReadsAhead, StopsWithinLine, TakesLines, bad_line_text, long_text}
-use Rattle.trace_replay.specs.Writes.{AppendsFront, HasWrittenUpTo}
-use Rattle.trace_replay.specs.declared.replay.Turn.{Turn}
-use Rattle.trace_replay.specs.declared.replay.Turn.TheVariants.{Served, Ended, Bad, Unread, Unwritten}
-use Rattle.trace_replay.specs.declared.status.Status.{Status}
-use Rattle.trace_replay.specs.declared.status.Status.TheVariants.{Done, BadLine, ReadFault, WriteFault, LongTrace, Memory}
-
--- what is shown of a line, or nothing
-abbrev pub shown_text : List ℕ → List ℕ
-shown_text line = option_map_or (λ (text : List ℕ). text) (shown_line line) []
+use Rattle.run_output.specs.Ends.{HasMore, IsLong, ReadsAhead, StopsWithinLine, TakesLines}
+use Rattle.run_output.specs.Texts.{bad_line_text, long_text}
+use Rattle.run_output.specs.Writes.{AppendsFront, HasWrittenUpTo}
+use Rattle.run_output.specs.declared.turn.Turn.{Turn}
+use Rattle.run_output.specs.declared.turn.Turn.TheVariants.{Served, Ended, Bad, Unread, Unwritten}
+use Rattle.run_output.specs.declared.status.Status.{Status}
+use Rattle.run_output.specs.declared.status.Status.TheVariants.{Done, BadLine, ReadFault, WriteFault, LongTrace, Memory}
 
 -- so many lines were taken, and all that they are shown as is this text
 pub record Shows (left now : Option (List ℕ)) (count : ℕ) (text : List ℕ) : Type 0 where

@@ -2,16 +2,14 @@
 #![tactic(auto)]
 
 mod limits;
-mod output;
 mod program;
 mod replay;
 mod show;
-mod status;
 mod words;
 
 pub use limits::{GeometryFault, Limit, NamedNumbers, each_refusal_is_told, geometry_fault};
 pub use program::run;
-pub use status::{Outcome, Status};
+pub use run_output::{Outcome, Status};
 pub use words::chip_of;
 
 #[cfg(test)]

@@ -1,30 +1,32 @@
-ghost use Rattle.std.specs.Prelude.{IsTrue, false, ◌≡◌, ◌≤◌, ◌⊎◌, ℕ, List, [], None, map, string_bytes};
-ghost use Rattle.std.specs.Io.KnownBytes.{Appends, IsAtEnd, prepend_known};
+ghost use Rattle.std.specs.Prelude.{false, ◌≡◌, ◌≤◌, ◌⊎◌, ℕ, List, [], None, map, string_bytes};
+ghost use Rattle.std.specs.Io.KnownBytes.{Appends, prepend_known};
 ghost use Rattle.hpb_device.specs.Counted.{CountsStand};
 ghost use Rattle.hpb_device.specs.Counts.{no_counts};
 ghost use Rattle.hpb_device.specs.Lists.{ListsStand};
 ghost use Rattle.hpb_device.specs.Regions.{HintsStand};
 ghost use Rattle.hpb_device.specs.Standing.{sizes_of};
 ghost use Rattle.replay_standing.specs.Standing.{AreCountsOf, Standing};
-ghost use Rattle.trace_replay.specs.Run.{CountsFault, EndsLong, Finishes, IsPlanned, ProgramIs, RunIs, SinkEnds, SourceEnds, bad_line_text, counts_text};
+ghost use Rattle.run_output.specs.Ends.{CountsFault, Finishes, SinkEnds, SourceEnds};
+ghost use Rattle.trace_replay.specs.Run.{IsPlanned, ProgramIs, RunIs};
+ghost use Rattle.run_output.specs.Texts.{counts_text};
 ghost use Rattle.trace_replay.specs.Showing.{ShowProgramIs};
 ghost use Rattle.trace_replay.specs.ByText.{is_shown_line, is_trace_line};
 ghost use Rattle.trace_replay.specs.Headline.{DrainsAll, EndsByText, Tells};
 ghost use Rattle.flat_unit.specs.Reads.{ReadsAllowed, ReadsEndGood};
 ghost use Rattle.trace_replay.specs.Options.{cut_shape};
 ghost use Rattle.replay_standing.specs.Transcript.{AreCountsOn, IsChipOf, IsTranscript, SendsUnready, sizes_on, unit_on};
-ghost use Rattle.trace_replay.specs.Writes.{AppendsFront};
+ghost use Rattle.run_output.specs.Writes.{AppendsFront};
 ghost use Rattle.trace_replay.specs.Words.{IsReplay, IsShow, named_chip, named_unit};
 
-use crate::output::{Output, write_all};
-use crate::replay::{Buffers, Turn, make_room, take_turn};
+use crate::replay::{Buffers, take_turn};
 use crate::show::show;
-use crate::status::{Outcome, Status};
 use crate::words::{Command, Named, command_of};
 use flash_pages::Flash;
 use hpb_device::Device;
 use hpb_outside::{Failed, NewFault, Sink, Source};
-use itoa::Buffer;
+use run_output::{
+    Outcome, Output, Status, Turn, end_long, finish, make_room, refuse_line, write_all,
+};
 use std::alloc::Global;
 
 /// The lines that a trace has at most.
@@ -229,7 +231,7 @@ fn replay<S: Source, K: Sink, F: Flash>(
             Turn::Bad => return refuse_line(&mut buffers.output, sink, number + 1),
         }
     }
-    match end_long(buffers, source, sink) {
+    match end_long(&mut buffers.reader, &mut buffers.output, source, sink) {
         Status::Done => end_of_trace(device, &mut buffers.output, sink),
         status => status,
     }
@@ -245,55 +247,4 @@ fn end_of_trace<K: Sink, F: Flash>(device: &Device<F>, output: &mut Output, sink
     }
     output.push_counts(device.counts());
     finish(output, sink, Status::Done)
-}
-
-/// Writes what was gathered, and ends with this status.
-pub(crate) fn finish<K: Sink>(output: &mut Output, sink: &mut K, status: Status) -> Status
-    ensures ends { Finishes (K.written sink.old) (K.written sink.new) output.old [] (K.faults sink.old) (K.faults sink.new) status result }
-{
-    match output.flush(sink) {
-        Ok(()) => status,
-        Err(Failed) => Status::WriteFault,
-    }
-}
-
-/// Ends at a line that the trace can't have.
-pub(crate) fn refuse_line<K: Sink>(output: &mut Output, sink: &mut K, number: u32) -> Status
-    ensures ends { Finishes (K.written sink.old) (K.written sink.new) output.old (bad_line_text number) (K.faults sink.old) (K.faults sink.new)
-        (Status.BadLine number) result }
-{
-    if make_room(output, sink).is_err() {
-        return Status::WriteFault;
-    }
-    let mut buffer = Buffer::new();
-    output.push_text(b"E line ");
-    output.push_text(buffer.format(number).as_bytes());
-    output.push_text(b"\n");
-    finish(output, sink, Status::BadLine(number))
-}
-
-/// Ends after the last line that a trace may have.
-pub(crate) fn end_long<S: Source, K: Sink>(
-    buffers: &mut Buffers,
-    source: &mut S,
-    sink: &mut K,
-) -> Status
-    requires { IsTrue buffers.old.reader.ended → IsAtEnd (S.left source.old) }
-    ensures ends { EndsLong (K.written sink.old) (K.written sink.new) buffers.old.output
-        (prepend_known buffers.old.reader.held (S.left source.old)) (S.left source.new) result }
-    ensures written { result ≡ Status.Done → buffers.new.output ≡ [] }
-    ensures source_faults { SourceEnds (S.faults source.old) (S.faults source.new) result }
-    ensures sink_faults { SinkEnds (K.faults sink.old) (K.faults sink.new) result }
-{
-    if buffers.output.flush(sink).is_err() {
-        return Status::WriteFault;
-    }
-    match buffers.reader.has_more(source) {
-        Ok(false) => Status::Done,
-        Ok(true) => {
-            buffers.output.push_text(b"E long\n");
-            finish(&mut buffers.output, sink, Status::LongTrace)
-        }
-        Err(Failed) => Status::ReadFault,
-    }
 }

@@ -1,14 +1,14 @@
 ghost use Rattle.std.specs.Prelude.{IsTrue, false, ◌≡◌, ◌≤◌, ◌⊎◌, [], length};
 ghost use Rattle.std.specs.Io.KnownBytes.{IsAtEnd, prepend_known};
 ghost use Rattle.trace_text.specs.Lines.{IsWithinLine};
-ghost use Rattle.trace_replay.specs.Run.{SinkEnds, SinkFaults, SourceEnds, SourceFaults};
-ghost use Rattle.trace_replay.specs.Writes.{WritesAll};
+ghost use Rattle.run_output.specs.Ends.{SinkEnds, SinkFaults, SourceEnds, SourceFaults};
+ghost use Rattle.run_output.specs.Writes.{WritesAll};
 ghost use Rattle.trace_replay.specs.Showing.{ShowIs, ShowTurnIs};
 
-use crate::program::{LINES, end_long, finish, refuse_line};
-use crate::replay::{Buffers, Turn, make_room, write_before_read};
-use crate::status::Status;
+use crate::program::LINES;
+use crate::replay::Buffers;
 use hpb_outside::{Sink, Source};
+use run_output::{Status, Turn, end_long, finish, make_room, refuse_line, write_before_read};
 use trace_text::LineFault;
 
 /// Shows the lines of a text to its end, or to what ends it before.
@@ -34,7 +34,7 @@ pub(crate) fn show<S: Source, K: Sink>(
             Turn::Bad => return refuse_line(&mut buffers.output, sink, number + 1),
         }
     }
-    end_long(buffers, source, sink)
+    end_long(&mut buffers.reader, &mut buffers.output, source, sink)
 }
 
 /// Reads one line and shows it. What was gathered is written before the source is asked for more.

@@ -1,8 +1,9 @@
 use Rattle.std.proofs.Common.{◌≡◌, ◌++◌, refl, inr, rules}
-use Rattle.trace_replay.specs.Run.{CountsFault, counts_text}
-use Rattle.trace_replay.specs.Writes.{HasWrittenUpTo}
-use Rattle.trace_replay.proofs.Runs.{ends_wordless, front_longer, last_since}
-use Rattle.trace_replay.proofs.Written.{cut_of, gathers_more, whole_of}
+use Rattle.run_output.specs.Ends.{CountsFault}
+use Rattle.run_output.specs.Texts.{counts_text}
+use Rattle.run_output.specs.Writes.{HasWrittenUpTo}
+use Rattle.run_output.proofs.Ended.{ends_wordless, last_since}
+use Rattle.run_output.proofs.Written.{front_longer, cut_of, gathers_more, whole_of}
 use Rattle.trace_replay.proofs.program.end_of_trace.Goals as goal
 
 pub returns-then-is_err : goal.returns-then-is_err

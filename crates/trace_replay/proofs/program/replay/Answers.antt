@@ -2,14 +2,15 @@ use Rattle.std.proofs.Common.{◌≡◌, ◌<◌, ◌≤◌, ℕ, None, refl, sy
 use Rattle.std.proofs.lemmas.Bool.{false≢true}
 use Rattle.trace_text.specs.Lines.{ReaderState}
 use Rattle.flat_unit.specs.Print.{print}
-use Rattle.trace_replay.specs.Run.{CountsFault, SinkEnds, SourceEnds}
-use Rattle.trace_replay.specs.declared.status.Status.TheVariants.{Done, BadLine}
-use Rattle.trace_replay.proofs.Runs.{ran_begins, ran_more, ends_done, ends_unread, ends_bad, ends_last, ends_unwritten, sink_ended, source_ended}
+use Rattle.run_output.specs.Ends.{CountsFault, SinkEnds, SourceEnds}
+use Rattle.run_output.specs.declared.status.Status.TheVariants.{Done, BadLine}
+use Rattle.trace_replay.proofs.Runs.{ran_begins, ran_more, ends_done, ends_unread, ends_bad, ends_last, ends_unwritten}
+use Rattle.run_output.proofs.Ended.{sink_ended, source_ended}
 use Rattle.trace_replay.proofs.Transcripts.{counts_of, ends_in_source}
 use Rattle.hpb_device.specs.State.{DeviceState}
 use Rattle.replay_standing.specs.Standing.{AreCountsOf, Standing}
-use Rattle.trace_replay.specs.Writes.{HasWrittenUpTo}
-use Rattle.trace_replay.proofs.Written.{all_written, keeps_same}
+use Rattle.run_output.specs.Writes.{HasWrittenUpTo}
+use Rattle.run_output.proofs.Written.{all_written, keeps_same}
 use Rattle.trace_replay.proofs.program.replay.Goals as goal
 
 pub loop-number-init : goal.loop-number-init
@@ -109,7 +110,7 @@ returns-in-Done-clause-run g c =
     let ran = c.loop-number.invariant.ran in
     let all : c.loop-number.number ≡ 1000000 = omega (arith, c.loop-number-test.false, c.loop-number.auto.number-end) in
     let last = rw c.in-Done.is at (c.end_long.ensures.ends _ (print ran.moment.events) ran.shows.1) in
-    let whole : HasWrittenUpTo (g.K.Sink.written c.args.sink.now) (g.K.Sink.written c.end_long.new.sink) (print ran.moment.events) c.end_long.new.buffers.output =
+    let whole : HasWrittenUpTo (g.K.Sink.written c.args.sink.now) (g.K.Sink.written c.end_long.new.sink) (print ran.moment.events) c.end_long.new.output =
     rw (c.end_long.ensures.written c.in-Done.is) (all_written _ _ (print ran.moment.events) last.0) in
     ends_done _ _ _ _ _ _ _ _ _ c.loop-number.number _ ran ran.shows.0 c.loop-number.device.counts c.end_of_trace-in-Done.result (counts_of c.args.device.now c.loop-number.device ran.moment ran.shows.0) (omega (arith, all)) last.1
     (c.end_of_trace-in-Done.ensures.ends _ (print ran.moment.events) whole)
@@ -118,7 +119,7 @@ pub returns-in-Done-clause-source_faults : goal.returns-in-Done-clause-source_fa
 returns-in-Done-clause-source_faults g c =
     let ran = c.loop-number.invariant.ran in
     let last = rw c.in-Done.is at (c.end_long.ensures.ends _ (print ran.moment.events) ran.shows.1) in
-    let whole : HasWrittenUpTo (g.K.Sink.written c.args.sink.now) (g.K.Sink.written c.end_long.new.sink) (print ran.moment.events) c.end_long.new.buffers.output =
+    let whole : HasWrittenUpTo (g.K.Sink.written c.args.sink.now) (g.K.Sink.written c.end_long.new.sink) (print ran.moment.events) c.end_long.new.output =
     rw (c.end_long.ensures.written c.in-Done.is) (all_written _ _ (print ran.moment.events) last.0) in
     let same = (rw c.in-Done.is at c.end_long.ensures.source_faults) ∙ c.loop-number.invariant.source_same in
     source_ended _ _ c.end_of_trace-in-Done.result Done same same (c.end_of_trace-in-Done.ensures.ends _ (print ran.moment.events) whole)
@@ -127,7 +128,7 @@ pub returns-in-Done-clause-sink_faults : goal.returns-in-Done-clause-sink_faults
 returns-in-Done-clause-sink_faults g c =
     let ran = c.loop-number.invariant.ran in
     let last = rw c.in-Done.is at (c.end_long.ensures.ends _ (print ran.moment.events) ran.shows.1) in
-    let whole : HasWrittenUpTo (g.K.Sink.written c.args.sink.now) (g.K.Sink.written c.end_long.new.sink) (print ran.moment.events) c.end_long.new.buffers.output =
+    let whole : HasWrittenUpTo (g.K.Sink.written c.args.sink.now) (g.K.Sink.written c.end_long.new.sink) (print ran.moment.events) c.end_long.new.output =
     rw (c.end_long.ensures.written c.in-Done.is) (all_written _ _ (print ran.moment.events) last.0) in
     let same = (rw c.in-Done.is at c.end_long.ensures.sink_faults) ∙ c.loop-number.invariant.sink_same in
     subst (λ (n : ℕ). SinkEnds n (g.K.Sink.faults c.end_of_trace-in-Done.new.sink) c.end_of_trace-in-Done.result) same

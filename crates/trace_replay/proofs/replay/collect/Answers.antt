@@ -5,7 +5,7 @@ use Rattle.flat_unit.specs.History.{followed_by}
 use Rattle.flat_unit.specs.Print.{print}
 use Rattle.replay_standing.proofs.Collecting.{calling_of, rests_of}
 use Rattle.trace_replay.proofs.Collecting.{call_lines, called_all, called_begins, called_written, called_goes_on, called_is_cut, called_ends}
-use Rattle.trace_replay.proofs.Written.{grows_more, grows_none, keeps_grows}
+use Rattle.run_output.proofs.Written.{grows_more, grows_none, keeps_grows}
 use Rattle.trace_replay.proofs.replay.collect.Goals as goal
 
 pub loop-call-init : goal.loop-call-init

@@ -5,7 +5,7 @@ use Rattle.hpb_device.specs.State.{AtRest}
 use Rattle.hpb_device.proofs.Going.{at_rest_of}
 use Rattle.trace_replay.proofs.Draining.{draining_begins, draining_written, draining_goes_on, draining_is_cut, draining_ends}
 use Rattle.replay_standing.proofs.Standing.{Stepping, idle_rests, stepping_of}
-use Rattle.trace_replay.proofs.Written.{grows_more, grows_none, keeps_grows}
+use Rattle.run_output.proofs.Written.{grows_more, grows_none, keeps_grows}
 use Rattle.trace_replay.proofs.replay.drain.Goals as goal
 
 pub steps-init : goal.steps-init

@@ -4,7 +4,7 @@ use Rattle.std.proofs.lemmas.Result.{err_from_is_err_and}
 use Rattle.flat_unit.specs.Print.{print}
 use Rattle.trace_replay.proofs.Making.{made_all, made_begins, made_written, made_goes_on, made_is_cut, made_ends}
 use Rattle.replay_standing.proofs.Standing.{idle_rests, stepping_of}
-use Rattle.trace_replay.proofs.Written.{grows_more, grows_none, keeps_grows}
+use Rattle.run_output.proofs.Written.{grows_more, grows_none, keeps_grows}
 use Rattle.trace_replay.proofs.replay.make_steps.Goals as goal
 
 pub loop-step-init : goal.loop-step-init

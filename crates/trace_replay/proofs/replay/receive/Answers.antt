@@ -5,7 +5,7 @@ use Rattle.flat_unit.specs.Print.{print, line_of}
 use Rattle.flat_unit.specs.declared.event.Event.TheVariants.{Host}
 use Rattle.hpb_device.specs.declared.device.Sent.TheVariants.{Nothing, Upiu as UpiuSent}
 use Rattle.trace_text.proofs.Lengths.{length-Host}
-use Rattle.trace_replay.proofs.Written.{keeps_grows}
+use Rattle.run_output.proofs.Written.{keeps_grows}
 use Rattle.replay_standing.proofs.Receiving.{Received}
 use Rattle.trace_replay.proofs.Receiving.{received_leads}
 use Rattle.trace_replay.proofs.replay.receive.Goals as goal

@@ -3,7 +3,7 @@ use Rattle.std.proofs.lemmas.Result.{err_from_is_err_and}
 use Rattle.flat_unit.specs.Print.{print}
 use Rattle.replay_standing.proofs.Receiving.{WasReset}
 use Rattle.trace_replay.proofs.Receiving.{reset_leads}
-use Rattle.trace_replay.proofs.Written.{keeps_grows}
+use Rattle.run_output.proofs.Written.{keeps_grows}
 use Rattle.trace_replay.proofs.replay.reset.Goals as goal
 
 pub returns-in_err-make_room-clause-serves : goal.returns-in_err-make_room-clause-serves

@@ -2,8 +2,9 @@ use Rattle.std.proofs.Common.{length, ◌≡◌, Some, None, refl, rules, inl, i
 use Rattle.std.specs.Io.KnownBytes.{prepend_known}
 use Rattle.flat_unit.specs.Print.{print}
 use Rattle.trace_text.specs.Grammar.{line_said, trace_line}
-use Rattle.trace_replay.proofs.Turns.{turn_cut, turn_served, whole_room, long_text_of}
-use Rattle.trace_replay.proofs.Written.{asked_after, cut_of, empty_unless, grows_none, up_to_end, whole_of}
+use Rattle.trace_replay.proofs.Turns.{turn_cut, turn_served, whole_room}
+use Rattle.run_output.proofs.Ended.{long_text_of}
+use Rattle.run_output.proofs.Written.{asked_after, cut_of, empty_unless, grows_none, up_to_end, whole_of}
 use Rattle.trace_replay.proofs.replay.take_turn.Goals as goal
 
 pub returns-then-is_err-clause-turn : goal.returns-then-is_err-clause-turn

@@ -1,12 +1,12 @@
 use Rattle.std.proofs.Common.{◌≡◌, ◌<◌, ◌≤◌, ◌++◌, ℕ, [], refl, sym, ap, subst, ◌∙◌, inl, arith}
 use Rattle.std.proofs.lemmas.Bool.{false≢true}
 use Rattle.trace_text.specs.Lines.{ReaderState}
-use Rattle.trace_replay.specs.Run.{CountsFault, SinkEnds, SourceEnds}
-use Rattle.trace_replay.specs.declared.status.Status.TheVariants.{Done, BadLine}
-use Rattle.trace_replay.proofs.Runs.{front_wordless, sink_ended, source_ended}
+use Rattle.run_output.specs.Ends.{CountsFault, SinkEnds, SourceEnds}
+use Rattle.run_output.specs.declared.status.Status.TheVariants.{Done, BadLine}
+use Rattle.run_output.proofs.Written.{front_wordless, keeps_same}
+use Rattle.run_output.proofs.Ended.{sink_ended, source_ended}
 use Rattle.trace_replay.proofs.Shown.{shows_begin, shows_more, show_done, show_bad, show_last}
 use Rattle.trace_replay.proofs.Transcripts.{ends_in_source}
-use Rattle.trace_replay.proofs.Written.{keeps_same}
 use Rattle.trace_replay.proofs.show.show.Goals as goal
 
 pub loop-number-init : goal.loop-number-init

@@ -1,0 +1,4 @@
+pub mod Ends
+pub mod Status
+pub mod Texts
+pub mod Writes

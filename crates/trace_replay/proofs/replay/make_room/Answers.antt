@@ -1,5 +1,0 @@
-use Rattle.trace_replay.proofs.Written.{flushed}
-use Rattle.trace_replay.proofs.replay.make_room.Goals as goal
-
-pub returns-clause-text : goal.returns-clause-text
-returns-clause-text g c = rw c.flush.ensures.empty (flushed _ _ _ c.flush.result c.flush.ensures.writes)

@@ -1,7 +1,0 @@
-use Rattle.std.proofs.Common.{ℕ, ◌≤◌, List, length, subst}
-use Rattle.hex.specs.Hex.{IsBytes}
-use Rattle.trace_replay.proofs.replay.push_step.Goals as goal
-
-pub returns-then-stepped-clause-bytes : goal.returns-then-stepped-clause-bytes
-returns-then-stepped-clause-bytes c sends =
-    (subst IsBytes c.bytes.ensures.value c.push_upiu.ensures.bytes, subst (λ (l : List ℕ). length l ≤ 4128) c.bytes.ensures.value c.bytes.ensures.fits)

@@ -1,0 +1,13 @@
+pub mod Answering
+pub mod Calls
+pub mod Counting
+pub mod Drains
+pub mod Exchanging
+pub mod Lining
+pub mod Patterns
+pub mod Playing
+pub mod Requesting
+pub mod Resets
+pub mod Runs
+pub mod Saying
+pub mod Stepping

@@ -19,7 +19,7 @@ use Rattle.run_output.specs.Ends.{SinkEnds, SourceEnds}
 use Rattle.run_output.specs.Texts.{bad_line_text, counts_text, long_text}
 use Rattle.trace_replay.specs.Showing.{ShowIs, ShowProgramIs}
 use Rattle.replay_standing.specs.Transcript.{IsChipOf, IsPlain, IsTranscript, SendsUnready, sizes_on, unit_on}
-use Rattle.trace_replay.specs.Words.{named_unit}
+use Rattle.command_words.specs.Words.{named_unit}
 use Rattle.run_output.specs.declared.status.Status.{Status}
 use Rattle.run_output.specs.declared.status.Status.TheVariants.{Done, BadLine, ReadFault, WriteFault, LongTrace, Usage, Memory, Geometry as BadGeometry, ChipFault, BadImage, BadCapture}
 use Rattle.trace_replay.proofs.ByText.{all_parsed, all_shown, begins_bad, begins_unshown, told_bad, told_done, told_long}

@@ -1,14 +1,13 @@
 pub mod ByText
 pub mod Collecting
+pub mod Commands
 pub mod Draining
+pub mod Driven
+pub mod Flat
 pub mod Headline
 pub mod Making
-pub mod Numbers
-pub mod Options
 pub mod Receiving
-pub mod Rows
 pub mod Runs
 pub mod Shown
-pub mod Told
 pub mod Transcripts
 pub mod Turns

@@ -30,15 +30,16 @@ use Rattle.hpb_device.specs.State.{DeviceState, IsSound}
 use Rattle.replay_standing.specs.Standing.{AreCountsOf, ForeignStanding, HasCollected, OwnStanding, Standing, pages_in}
 use Rattle.flash_store.specs.Index.{CanServe}
 use Rattle.region_state.specs.Shape.{IsWithinLimits}
-use Rattle.trace_replay.specs.Options.{cut_shape}
-use Rattle.trace_replay.specs.Run.{IsNamed, IsPlanned, ProgramIs, RunIs, geometry_text}
+use Rattle.command_words.specs.Options.{cut_shape}
+use Rattle.command_words.specs.Limits.{IsNamed}
+use Rattle.trace_replay.specs.Run.{IsPlanned, ProgramIs, RunIs, geometry_text}
 use Rattle.run_output.specs.Writes.{AppendsFront}
 use Rattle.trace_replay.specs.Showing.{ShowIs, ShowProgramIs}
 use Rattle.flat_unit.specs.Counts.{Counted}
 use Rattle.flat_unit.specs.Hints.{Hinted}
 use Rattle.hpb_device.proofs.CountingCalls.{counted_of}
 use Rattle.replay_standing.specs.Transcript.{AreCounts, AreCountsOn, FitTranscript, HasNoMore, IsChipOf, IsRefused, IsServed, IsTranscript, SendsUnready, has_page, sizes_on, unit_on}
-use Rattle.trace_replay.specs.Words.{IsReplay, named_chip, named_unit}
+use Rattle.command_words.specs.Words.{IsReplay, named_chip, named_unit}
 use Rattle.region_state.specs.declared.shape.Shape.{Shape}
 use Rattle.run_output.specs.declared.status.Status.{Status}
 use Rattle.run_output.specs.declared.status.Status.TheVariants.{Done, BadLine, ReadFault, WriteFault, LongTrace, Usage, Memory, Geometry as BadGeometry, ChipFault, BadImage, BadCapture}
@@ -56,23 +57,23 @@ pub record IsFresh (device : DeviceState) (shape : Shape) (geometry : Geometry) 
   pub some_page : 1 ≤ geometry.pages
 
 -- what is said of a device's chip
-record OnChip : Type 0 where
-  geometry : Geometry
-  luns : ℕ
-  units : ℕ
-  pages : List Page
+pub record OnChip : Type 0 where
+  pub geometry : Geometry
+  pub luns : ℕ
+  pub units : ℕ
+  pub pages : List Page
 
-abbrev chip_of : DeviceState → OnChip
+abbrev pub chip_of : DeviceState → OnChip
 chip_of device = record { geometry = device.store.geometry; luns = device.store.luns; units = device.store.units; pages = device.store.pages }
 
-abbrev named_on : Shape → Geometry → List Page → OnChip
+abbrev pub named_on : Shape → Geometry → List Page → OnChip
 named_on shape geometry pages = record { geometry = geometry; luns = 1; units = shape.units; pages = pages }
 
 module _ (start device : DeviceState) (shape : Shape) (geometry : Geometry) (pages : List Page) (faults : ℕ) (fresh : IsFresh start shape geometry pages faults) where
   pub fresh_sizes : sizes_of start ≡ sizes_on shape geometry
   fresh_sizes = λ i. sizes (fresh.luns i) (limits_of (fresh.shape_is i)) (fresh.geometry_is i)
 
-  start_chip : chip_of start ≡ named_on shape geometry pages
+  pub start_chip : chip_of start ≡ named_on shape geometry pages
   start_chip = λ i. record { geometry = fresh.geometry_is i; luns = fresh.luns i; units = fresh.units i; pages = fresh.pages_are i }
 
   -- the first moment, by the chip that was handed in

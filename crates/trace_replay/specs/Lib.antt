@@ -1,8 +1,7 @@
 pub mod Moments
 pub mod ByText
+pub mod Driving
+pub mod FlatAnswers
 pub mod Headline
-pub mod Limits
 pub mod Run
 pub mod Showing
-pub mod Words
-pub mod Options

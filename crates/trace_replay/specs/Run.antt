@@ -21,10 +21,9 @@ use Rattle.run_output.specs.declared.turn.Turn.TheVariants.{Served, Ended, Bad, 
 use Rattle.run_output.specs.declared.status.Status.{Status}
 use Rattle.run_output.specs.declared.status.Status.TheVariants.{Done, BadLine, ReadFault, WriteFault, LongTrace, Usage, Geometry as BadGeometry, Memory}
 use Rattle.flash_pages.specs.declared.chip.Geometry.{Geometry}
-use Rattle.flash_store.specs.Index.{CanServe}
-use Rattle.region_state.specs.Shape.{IsWithinLimits}
 use Rattle.replay_standing.specs.Transcript.{sizes_on}
-use Rattle.trace_replay.specs.Words.{IsReplay, named_chip, named_unit}
+use Rattle.command_words.specs.Limits.{IsNamed}
+use Rattle.command_words.specs.Words.{IsReplay, named_unit}
 
 -- the next line is too long, and nothing was taken; or it was taken and is none of a trace. This is what follows what was taken.
 abbrev pub IsBadNext : (left behind : Option (List ℕ)) → Type 0
@@ -109,11 +108,6 @@ usage_text = codes "E usage\n"
 
 abbrev pub geometry_text : List ℕ
 geometry_text = codes "E geometry\n"
-
--- the chip is the one that the words name, and can hold the unit that they name
-abbrev pub IsNamed : List (List ℕ) → Geometry → Type 0
-IsNamed words geometry = (geometry ≡ named_chip words) × IsWithinLimits (named_unit words)
-    × CanServe geometry 1 (named_unit words).units
 
 -- the words are in form, and the chip serves what they name
 abbrev pub IsPlanned : List (List ℕ) → Geometry → Type 0

@@ -1,19 +1,22 @@
-//! The program: it replays a trace of UPIUs against a device, and prints the UPIUs of both sides.
+//! The program: it replays a trace of UPIUs against a device, or drives a device by its own driver, and prints the UPIUs
+//! of both sides.
 #![tactic(auto)]
 
-mod limits;
+mod driving;
 mod program;
 mod replay;
 mod show;
-mod words;
 
-pub use limits::{GeometryFault, Limit, NamedNumbers, each_refusal_is_told, geometry_fault};
+pub use command_words::{
+    GeometryFault, Limit, NamedNumbers, chip_of, each_refusal_is_told, geometry_fault,
+};
 pub use program::run;
 pub use run_output::{Outcome, Status};
-pub use words::chip_of;
 
 #[cfg(test)]
 mod chip_tests;
+#[cfg(test)]
+mod drive_tests;
 #[cfg(test)]
 mod hostile_tests;
 #[cfg(test)]

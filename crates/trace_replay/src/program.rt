@@ -13,14 +13,20 @@ ghost use Rattle.trace_replay.specs.Showing.{ShowProgramIs};
 ghost use Rattle.trace_replay.specs.ByText.{is_shown_line, is_trace_line};
 ghost use Rattle.trace_replay.specs.Headline.{DrainsAll, EndsByText, Tells};
 ghost use Rattle.flat_unit.specs.Reads.{ReadsAllowed, ReadsEndGood};
-ghost use Rattle.trace_replay.specs.Options.{cut_shape};
+ghost use Rattle.command_words.specs.Options.{cut_shape};
 ghost use Rattle.replay_standing.specs.Transcript.{AreCountsOn, IsChipOf, IsTranscript, SendsUnready, sizes_on, unit_on};
 ghost use Rattle.run_output.specs.Writes.{AppendsFront};
-ghost use Rattle.trace_replay.specs.Words.{IsReplay, IsShow, named_chip, named_unit};
+ghost use Rattle.command_words.specs.Limits.{IsNamed};
+ghost use Rattle.command_words.specs.Words.{IsDrive, IsReplay, IsShow, is_plain, named_chip, named_unit, only_answers};
+ghost use Rattle.driver_caches.specs.Machine.{machine_begun};
+ghost use Rattle.drive_rules.specs.Lines.{Drive};
+ghost use Rattle.trace_replay.specs.Driving.{DriveProgramIs};
+ghost use Rattle.trace_replay.specs.FlatAnswers.{AnswersFlat};
 
+use crate::driving::run_drive;
 use crate::replay::{Buffers, take_turn};
 use crate::show::show;
-use crate::words::{Command, Named, command_of};
+use command_words::{Command, Named, command_of};
 use flash_pages::Flash;
 use hpb_device::Device;
 use hpb_outside::{Failed, NewFault, Sink, Source};
@@ -34,9 +40,10 @@ pub(crate) const LINES: u32 = 1_000_000;
 
 /// Runs a command over a source, and prints to a sink. The words are those after the program's name.
 ///
-/// `replay` replays a trace against a device with one logical unit over the chip, whatever it holds, and prints the transcript and
-/// what was counted. Its options name the chip and the unit, and the chip has to be the named one. `show` prints one line for each
-/// line of a transcript, and leaves the chip alone.
+/// `replay` replays a trace against a device with one logical unit over the chip, whatever it holds, and prints the
+/// transcript and what was counted. `drive` reads requests, steps and resets in place of a trace: a driver of its own makes
+/// UPIUs of them, and the ends of the requests are printed too. The options name the chip and the unit, and the chip has to
+/// be the named one. `show` prints one line for each line of a transcript, and leaves the chip alone.
 pub fn run<S: Source, K: Sink, F: Flash>(
     alloc: Global,
     words: &[String],
@@ -45,10 +52,21 @@ pub fn run<S: Source, K: Sink, F: Flash>(
     flash: F,
 ) -> Outcome<F>
     // What was read and written, why the run ended, and what is known of the events and of the chip that is handed back.
-    ensures run { ¬ IsShow (map string_bytes words.now) → ProgramIs (map string_bytes words.now) (F.geometry flash)
+    ensures run { ¬ IsShow (map string_bytes words.now) → ¬ IsDrive (map string_bytes words.now) → ProgramIs (map string_bytes words.now) (F.geometry flash)
         (IsTranscript (named_unit (map string_bytes words.now)) (F.geometry flash)
         (F.faults flash) (F.faults result.flash) (F.pages flash) (F.pages result.flash))
         (AreCountsOn (named_unit (map string_bytes words.now)) (F.geometry flash) (F.pages flash))
+        ((source.new ≡ source.old) × (F.pages result.flash ≡ F.pages flash))
+        (S.left source.old) (S.left source.new) (K.written sink.old) (K.written sink.new) 1000000 result.status }
+    // The same of a drive, with all that it said.
+    ensures drive { IsDrive (map string_bytes words.now) → DriveProgramIs
+        (IsNamed (map string_bytes words.now) (F.geometry flash))
+        (sizes_on (named_unit (map string_bytes words.now)) (F.geometry flash))
+        (machine_begun (is_plain (map string_bytes words.now)) (named_unit (map string_bytes words.now)) 1)
+        (only_answers (map string_bytes words.now))
+        (λ (d : Drive). IsTranscript (named_unit (map string_bytes words.now)) (F.geometry flash)
+        (F.faults flash) (F.faults result.flash) (F.pages flash) (F.pages result.flash) d.progress)
+        (λ (d : Drive). AreCountsOn (named_unit (map string_bytes words.now)) (F.geometry flash) (F.pages flash) d.progress)
         ((source.new ≡ source.old) × (F.pages result.flash ≡ F.pages flash))
         (S.left source.old) (S.left source.new) (K.written sink.old) (K.written sink.new) 1000000 result.status }
     // What is shown of each line, and why the run ended.
@@ -60,29 +78,37 @@ pub fn run<S: Source, K: Sink, F: Flash>(
     ensures sink_faults { SinkEnds (K.faults sink.old) (K.faults sink.new) result.status }
     // The headline: each block that a read carries was allowed just before it, and over a sound chip each RESPONSE that ends a read
     // is GOOD or stands directly behind a read of the chip that failed.
-    ensures reads_allowed { ¬ IsShow (map string_bytes words.now)
-        → IsPlanned (map string_bytes words.now) (F.geometry flash)
+    ensures reads_allowed { IsPlanned (map string_bytes words.now) (F.geometry flash)
         → IsChipOf (named_unit (map string_bytes words.now)) (F.geometry flash) (F.pages flash)
         → Tells result.status (K.written sink.old) (K.written sink.new)
         (ReadsAllowed (sizes_on (named_unit (map string_bytes words.now)) (F.geometry flash))
         (unit_on (named_unit (map string_bytes words.now)) (F.pages flash))) }
-    ensures reads_good { ¬ IsShow (map string_bytes words.now)
-        → IsPlanned (map string_bytes words.now) (F.geometry flash)
+    ensures reads_good { IsPlanned (map string_bytes words.now) (F.geometry flash)
         → IsChipOf (named_unit (map string_bytes words.now)) (F.geometry flash) (F.pages flash)
         → Tells result.status (K.written sink.old) (K.written sink.new)
         (ReadsEndGood (sizes_on (named_unit (map string_bytes words.now)) (F.geometry flash))) }
     // Over any other chip each UPIU of a step tells that the chip is none of the device's, or could not be read.
-    ensures unready { ¬ IsShow (map string_bytes words.now)
-        → IsPlanned (map string_bytes words.now) (F.geometry flash)
+    ensures unready { IsPlanned (map string_bytes words.now) (F.geometry flash)
         → ¬ IsChipOf (named_unit (map string_bytes words.now)) (F.geometry flash) (F.pages flash)
         → Tells result.status (K.written sink.old) (K.written sink.new)
         (SendsUnready (sizes_on (named_unit (map string_bytes words.now)) (F.geometry flash))) }
     // After a `D` line no read is kept, but behind a task that waits for data.
-    ensures drained { ¬ IsShow (map string_bytes words.now) → result.status ≡ Status.Done
+    ensures drained { IsReplay (map string_bytes words.now) → result.status ≡ Status.Done
         → DrainsAll (sizes_on (named_unit (map string_bytes words.now)) (F.geometry flash))
         (S.left source.old) (S.left source.new) (K.written sink.old) (K.written sink.new) }
+    // A drive over a sound chip that was read to its end: where each answer is GOOD, the blocks of each read are those of
+    // a plain list of blocks to which the lines are applied one after another, with HPB and without; and where no call of
+    // the chip failed, each request is answered GOOD or cut by a reset.
+    ensures flat_answers { IsDrive (map string_bytes words.now)
+        → IsChipOf (named_unit (map string_bytes words.now)) (F.geometry flash) (F.pages flash)
+        → result.status ≡ Status.Done
+        → AnswersFlat (sizes_on (named_unit (map string_bytes words.now)) (F.geometry flash))
+        (unit_on (named_unit (map string_bytes words.now)) (F.pages flash))
+        (machine_begun (is_plain (map string_bytes words.now)) (named_unit (map string_bytes words.now)) 1)
+        (only_answers (map string_bytes words.now))
+        (S.left source.old) (S.left source.new) (K.written sink.old) (K.written sink.new) }
     // Where no call of the source or the sink failed, the status is a function of the text alone.
-    ensures by_text { ¬ IsShow (map string_bytes words.now) → IsPlanned (map string_bytes words.now) (F.geometry flash)
+    ensures by_text { IsPlanned (map string_bytes words.now) (F.geometry flash)
         → EndsByText is_trace_line (S.left source.old) (S.faults source.old) (S.faults source.new) (K.faults sink.old) (K.faults sink.new) result.status }
     ensures shown_by_text { IsShow (map string_bytes words.now)
         → EndsByText is_shown_line (S.left source.old) (S.faults source.old) (S.faults source.new) (K.faults sink.old) (K.faults sink.new) result.status }
@@ -99,10 +125,21 @@ fn run_command<S: Source, K: Sink, F: Flash>(
     flash: F,
 ) -> Outcome<F>
     // What was read and written, why the run ended, and what is known of the events and of the chip that is handed back.
-    ensures run { ¬ IsShow (map string_bytes words.now) → ProgramIs (map string_bytes words.now) (F.geometry flash)
+    ensures run { ¬ IsShow (map string_bytes words.now) → ¬ IsDrive (map string_bytes words.now) → ProgramIs (map string_bytes words.now) (F.geometry flash)
         (IsTranscript (named_unit (map string_bytes words.now)) (F.geometry flash)
         (F.faults flash) (F.faults result.flash) (F.pages flash) (F.pages result.flash))
         (AreCountsOn (named_unit (map string_bytes words.now)) (F.geometry flash) (F.pages flash))
+        ((source.new ≡ source.old) × (F.pages result.flash ≡ F.pages flash))
+        (S.left source.old) (S.left source.new) (K.written sink.old) (K.written sink.new) 1000000 result.status }
+    // The same of a drive, with all that it said.
+    ensures drive { IsDrive (map string_bytes words.now) → DriveProgramIs
+        (IsNamed (map string_bytes words.now) (F.geometry flash))
+        (sizes_on (named_unit (map string_bytes words.now)) (F.geometry flash))
+        (machine_begun (is_plain (map string_bytes words.now)) (named_unit (map string_bytes words.now)) 1)
+        (only_answers (map string_bytes words.now))
+        (λ (d : Drive). IsTranscript (named_unit (map string_bytes words.now)) (F.geometry flash)
+        (F.faults flash) (F.faults result.flash) (F.pages flash) (F.pages result.flash) d.progress)
+        (λ (d : Drive). AreCountsOn (named_unit (map string_bytes words.now)) (F.geometry flash) (F.pages flash) d.progress)
         ((source.new ≡ source.old) × (F.pages result.flash ≡ F.pages flash))
         (S.left source.old) (S.left source.new) (K.written sink.old) (K.written sink.new) 1000000 result.status }
     // What is shown of each line, and why the run ended.
@@ -115,6 +152,7 @@ fn run_command<S: Source, K: Sink, F: Flash>(
 {
     match command_of(words) {
         Some(Command::Replay(named)) => run_replay(alloc, named, source, sink, flash),
+        Some(Command::Drive(driven)) => run_drive(alloc, driven, source, sink, flash),
         Some(Command::Show) => {
             let status = run_show(alloc, source, sink);
             Outcome { status, flash }
@@ -183,8 +221,13 @@ fn run_show<S: Source, K: Sink>(alloc: Global, source: &mut S, sink: &mut K) -> 
     show(&mut buffers, source, sink)
 }
 
-/// The outcome where nothing is replayed.
-fn refused<K: Sink, F: Flash>(sink: &mut K, status: Status, text: &[u8], flash: F) -> Outcome<F>
+/// The outcome where no line is read.
+pub(crate) fn refused<K: Sink, F: Flash>(
+    sink: &mut K,
+    status: Status,
+    text: &[u8],
+    flash: F,
+) -> Outcome<F>
     ensures refused { ((result.status ≡ status) × Appends (K.written sink.old) (K.written sink.new) text.now
         × (K.faults sink.new ≡ K.faults sink.old))
         ⊎ ((result.status ≡ Status.WriteFault) × AppendsFront (K.written sink.old) (K.written sink.new) text.now

@@ -1,7 +1,7 @@
 use Rattle.std.proofs.Common.{◌∙◌, ap, arith, refl, sym}
 use Rattle.trace_text.specs.Lines.{ReaderState}
 use Rattle.region_state.specs.declared.shape.Shape.{Shape}
-use Rattle.trace_replay.specs.Words.{named_unit}
+use Rattle.command_words.specs.Words.{named_unit}
 use Rattle.trace_replay.proofs.Transcripts.{IsFresh, names_chip, names_no_chip, other_chip, refused_geometry, run_of_chip, same_chip}
 use Rattle.trace_replay.proofs.program.run_replay.Goals as goal
 

@@ -1,4 +1,5 @@
-//! The program `ufshpb`: it replays traces against a UFS device, and shows what transcripts say.
+//! The program `ufshpb`: it replays traces against a UFS device, drives one by its own driver, and shows what transcripts
+//! say.
 #![tactic(auto)]
 
 use hpb_outside::{StdSink, StdSource};
@@ -11,16 +12,21 @@ use trace_replay::{Limit, Status, chip_of, geometry_fault, run};
 /// How the program is used.
 const USAGE: &str = "\
 usage: ufshpb replay [OPTIONS]   replays a trace from standard input
+       ufshpb drive [OPTIONS]    drives a device by the requests from standard input
        ufshpb show               shows each line of a trace or a transcript
 
-Options of replay, each at most once, each with its value as the next word:
+Options of replay and drive, each at most once, each with its value as the next word:
   --blocks N   erase blocks of the chip, 4 to 4096 (default 64)
   --pages N    pages of an erase block, 2 to 256, at most 65536 in all (default 64)
   --units N    blocks of the logical unit, 1 to (blocks - 3) * pages (default (blocks - 3) * pages)
   --region N   a region has 512 bytes times 2 to this power, 3 to 19 (default 10)
   --sub N      a subregion likewise, 3 to that of a region (default 8)
   --held N     regions that the host may hold, 1 to 32 (default 4)
-  --mode M     who decides which regions these are, device or host (default device)";
+  --mode M     who decides which regions these are, device or host (default device)
+
+Options of drive alone, each at most once and without a value:
+  --plain      drives without a cache of the map: each read goes out without an entry
+  --answers    prints the ends of the requests and the counts alone";
 
 fn main(rt: HostRuntime) -> ExitCode {
     let alloc = rt.alloc();

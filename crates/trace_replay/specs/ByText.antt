@@ -20,7 +20,7 @@ abbrev pub status_by : ℕ → (good all : ℕ) → Status
 status_by limit good all =
     if nat_le limit good && nat_lt limit all then LongTrace else (if good == all then Done else BadLine (good + 1))
 
--- the status of a text: Done where each line is good, LongTrace where more lines follow than may be taken, else the number
--- of the first line that isn't good
+-- the status of a text: Done where each line is good, LongTrace where more lines follow than may be taken, else the
+-- number of the first line that isn't good
 abbrev pub status_of : (List ℕ → Bool) → ℕ → List ℕ → Status
 status_of good limit text = status_by limit (prefix_len good (lines_of text)) (length (lines_of text))

@@ -31,9 +31,9 @@ link_begun device plain unit = record {
   lun = 0;
 }
 
--- What a run of a drive leaves at each status. `served` says that the chip serves what is named, and `same` that nothing
--- was read, and the chip is as it came. Where there is no memory, nothing was read or written, or a line was taken whose
--- request got none.
+-- What a run of a drive leaves at each status. `served` says that the chip serves what is named, and `same` that
+-- nothing was read, and the chip is as it came. Where there is no memory, nothing was read or written, or a line was
+-- taken whose request got none.
 abbrev pub DriveProgramIs : (served : Type 0) → Sizes → Machine → (only : Bool) → (good : Drive → Type 0)
     → (counted : Drive → Counts → Type 0) → (same : Type 0) → (left left_now written written_now : Option (List ℕ)) → ℕ
     → Status → Type 0

@@ -30,8 +30,8 @@ AreLastWords words =
     (words ≡ []) ⊎ ((number : ℕ) × (words ≡ bad_line_text number)) ⊎ (words ≡ long_text)
     ⊎ ((counts : Counts) × (words ≡ counts_text counts))
 
--- The text of plain events with this fact was written, and then the last words. No line of an event begins as those do, so
--- the text tells which events they are.
+-- The text of plain events with this fact was written, and then the last words. No line of an event begins as those do,
+-- so the text tells which events they are.
 pub record Tells (status : Status) (old new : Option (List ℕ)) (fact : History → Type 0) : Type 0 where
   pub events : History
   pub words : List ℕ
@@ -40,7 +40,8 @@ pub record Tells (status : Status) (old new : Option (List ℕ)) (fact : History
   pub holds : fact events
   pub written : IsWritten status old new (print events ++ words)
 
--- all lines of a text were taken, and after each drain no read goes on; the text of the events was written, and the counts
+-- all lines of a text were taken, and after each drain no read goes on; the text of the events was written, and the
+-- counts
 pub record DrainsAll (s : Sizes) (left left_now written written_now : Option (List ℕ)) : Type 0 where
   pub texts : List (List ℕ)
   pub lines : List Line
@@ -53,7 +54,8 @@ pub record DrainsAll (s : Sizes) (left left_now written written_now : Option (Li
   pub counts : Counts
   pub printed : Appends written written_now (print moment.events ++ counts_text counts)
 
--- where a text is told and no call of the source or the sink failed, the status is that of the text, or memory was wanted
+-- where a text is told and no call of the source or the sink failed, the status is that of the text, or memory was
+-- wanted
 abbrev pub EndsByText : (good : List ℕ → Bool) → (left : Option (List ℕ)) → (source source_now sink sink_now : ℕ)
     → Status → Type 0
 EndsByText good left source source_now sink sink_now status = (text : List ℕ) → left ≡ Some text

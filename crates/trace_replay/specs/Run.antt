@@ -25,7 +25,8 @@ use Rattle.replay_standing.specs.Transcript.{sizes_on}
 use Rattle.command_words.specs.Limits.{IsNamed}
 use Rattle.command_words.specs.Words.{IsReplay, named_unit}
 
--- the next line is too long, and nothing was taken; or it was taken and is none of a trace. This is what follows what was taken.
+-- the next line is too long, and nothing was taken; or it was taken and is none of a trace. This is what follows what
+-- was taken.
 abbrev pub IsBadNext : (left behind : Option (List ℕ)) → Type 0
 IsBadNext left behind = (IsLong left × Keeps left behind)
     ⊎ ((text : List ℕ) × WhereTold (TakesLine text) left behind × (trace_line text ≡ None))
@@ -37,7 +38,8 @@ IsCutNext s left p now = (now ≡ p)
     × (trace_line text ≡ Some line) × CutLineTo s line p now)
 
 -- what one line comes to, where the replay has come so far
-abbrev pub TurnAt : (start : DeviceState) (before : Option (List ℕ)) (p : Progress) (old new : DeviceState) (left left_now written : Option (List ℕ)) (gathered : List ℕ) → Turn → Type 0
+abbrev pub TurnAt : (start : DeviceState) (before : Option (List ℕ)) (p : Progress) (old new : DeviceState)
+    (left left_now written : Option (List ℕ)) (gathered : List ℕ) → Turn → Type 0
 TurnAt start before p old new left left_now written gathered Served =
     (text : List ℕ) × (line : Line) × IsLine text × WhereTold (TakesLine text) left left_now
     × (trace_line text ≡ Some line)
@@ -48,9 +50,11 @@ TurnAt start before p old new left left_now written gathered Unread =
     Keeps left left_now × (new ≡ old) × Appends before written (print p.events)
 TurnAt start before p old new left left_now written gathered Bad =
     IsBadNext left left_now × (new ≡ old) × HasWrittenUpTo before written (print p.events) gathered
-TurnAt start before p old new left left_now written gathered Unwritten = Cuts (IsCutNext (sizes_of start) left p) start new before written
+TurnAt start before p old new left left_now written gathered Unwritten =
+    Cuts (IsCutNext (sizes_of start) left p) start new before written
 
-abbrev pub TurnIs : (old new : DeviceState) (left left_now written written_now : Option (List ℕ)) (gathered gathered_now : List ℕ) → Turn → Type 0
+abbrev pub TurnIs : (old new : DeviceState) (left left_now written written_now : Option (List ℕ))
+    (gathered gathered_now : List ℕ) → Turn → Type 0
 TurnIs old new left left_now written written_now gathered gathered_now turn =
     (start : DeviceState) (before : Option (List ℕ)) (p : Progress) → Standing start old p
     → HasWrittenUpTo before written (print p.events) gathered
@@ -68,23 +72,25 @@ pub record Ran (s : Sizes) (left now : Option (List ℕ)) (count : ℕ) (facts :
   pub drains : DrainsReads s lines begun moment
   pub shows : facts moment
 
--- What a run had to write when its sink failed, where so many lines were taken and served: the text of the next line as far
--- as it was served, or of all of them with the last words.
+-- What a run had to write when its sink failed, where so many lines were taken and served: the text of the next line as
+-- far as it was served, or of all of them with the last words.
 abbrev pub IsCutShort : Sizes → (counted : Progress → Counts → Type 0) → (mid : Option (List ℕ)) → (limit n : ℕ)
     → (p last : Progress) → (words : List ℕ) → Type 0
 IsCutShort s counted mid limit n p last words =
     (IsCutNext s mid p last × (n ≤ limit) × (n ≡ limit → last ≡ p) × (words ≡ []))
     ⊎ ((last ≡ p) × (n < limit) × (words ≡ bad_line_text (n + 1)) × ((behind : Option (List ℕ)) × IsBadNext mid behind))
     ⊎ ((last ≡ p) × (n ≡ limit) × (words ≡ long_text) × HasMore mid)
-    ⊎ ((last ≡ p) × (n ≤ limit) × ((behind : Option (List ℕ)) × WhereTold EndsAt mid behind) × ((counts : Counts) × counted p counts × (words ≡ counts_text counts)))
+    ⊎ ((last ≡ p) × (n ≤ limit) × ((behind : Option (List ℕ)) × WhereTold EndsAt mid behind)
+    × ((counts : Counts) × counted p counts × (words ≡ counts_text counts)))
 
--- What a replay leaves at each status. `good` is what is known of the events and of the device, `counted` what is known of
--- the counts at the end, and `left_now` is what is left in the source.
+-- What a replay leaves at each status. `good` is what is known of the events and of the device, `counted` what is known
+-- of the counts at the end, and `left_now` is what is left in the source.
 abbrev pub RunIs : Sizes → (good : Progress → Type 0) → (counted : Progress → Counts → Type 0)
     → (left left_now written written_now : Option (List ℕ)) → ℕ → Status → Type 0
 RunIs s good counted left left_now written written_now limit Done =
     (mid : Option (List ℕ)) × (n : ℕ)
-    × Ran s left mid n (λ p. good p × ((counts : Counts) × counted p counts × Appends written written_now (print p.events ++ counts_text counts)))
+    × Ran s left mid n (λ p. good p × ((counts : Counts) × counted p counts
+    × Appends written written_now (print p.events ++ counts_text counts)))
     × (n ≤ limit) × WhereTold EndsAt mid left_now
 RunIs s good counted left left_now written written_now limit (BadLine number) =
     (mid : Option (List ℕ)) × (behind : Option (List ℕ)) × (n : ℕ)

@@ -20,13 +20,15 @@ pub record Shows (left now : Option (List ℕ)) (count : ℕ) (text : List ℕ) 
   pub counted : length lines ≡ count
   pub whole : text ≡ flat_map (λ (line : List ℕ). line) shown
 
--- the next line is too long, and nothing was taken; or it was taken, and its UPIU isn't hex. This is what follows what was taken.
+-- the next line is too long, and nothing was taken; or it was taken, and its UPIU isn't hex. This is what follows what
+-- was taken.
 abbrev pub IsUnshown : (left behind : Option (List ℕ)) → Type 0
 IsUnshown left behind = (IsLong left × Keeps left behind)
     ⊎ ((line : List ℕ) × WhereTold (TakesLine line) left behind × (shown_line line ≡ None))
 
 -- what one line comes to
-abbrev pub ShowTurnAt : (before : Option (List ℕ)) (text : List ℕ) (left left_now written : Option (List ℕ)) (gathered : List ℕ) → Turn → Type 0
+abbrev pub ShowTurnAt : (before : Option (List ℕ)) (text : List ℕ) (left left_now written : Option (List ℕ))
+    (gathered : List ℕ) → Turn → Type 0
 ShowTurnAt before text left left_now written gathered Served =
     (line : List ℕ) × (shown : List ℕ) × IsLine line × WhereTold (TakesLine line) left left_now
     × (shown_line line ≡ Some shown) × HasWrittenUpTo before written (text ++ shown) gathered

@@ -136,14 +136,9 @@ fn push_shown(alloc: Global, text: &mut Vec<u8>, shown: Shown) -> Result<(), Fai
     Ok(())
 }
 
-/// Adds a block that a read got, without the end of its line. Byte j of one that was written is 31 times the seed, and 7
-/// times the LBA, and j, modulo 256.
-fn push_block(
-    alloc: Global,
-    text: &mut Vec<u8>,
-    lba: u32,
-    seed: Option<u32>,
-) -> Result<(), Fail> {
+/// Adds a block that a read got, without the end of its line. Byte j of one that was written is the sum of 31 times the
+/// seed, 7 times the LBA, and j, modulo 256.
+fn push_block(alloc: Global, text: &mut Vec<u8>, lba: u32, seed: Option<u32>) -> Result<(), Fail> {
     let head = format!(in alloc; "B {lba} ")?;
     text.extend_from_slice(head.as_bytes())?;
     for place in 0..4096_u64 {

@@ -1,5 +1,5 @@
-//! The program: it replays a trace of UPIUs against a device, or drives a device by its own driver, and prints the UPIUs
-//! of both sides.
+//! The program: it replays a trace of UPIUs against a device, or drives a device by its own driver, and prints the
+//! UPIUs of both sides.
 #![tactic(auto)]
 
 mod driving;

@@ -41,9 +41,9 @@ pub(crate) const LINES: u32 = 1_000_000;
 /// Runs a command over a source, and prints to a sink. The words are those after the program's name.
 ///
 /// `replay` replays a trace against a device with one logical unit over the chip, whatever it holds, and prints the
-/// transcript and what was counted. `drive` reads requests, steps and resets in place of a trace: a driver of its own makes
-/// UPIUs of them, and the ends of the requests are printed too. The options name the chip and the unit, and the chip has to
-/// be the named one. `show` prints one line for each line of a transcript, and leaves the chip alone.
+/// transcript and what was counted. `drive` reads requests, steps and resets in place of a trace: a driver of its own
+/// makes UPIUs of them, and the ends of the requests are printed too. The options name the chip and the unit, and the
+/// chip has to be the named one. `show` prints one line for each line of a transcript, and leaves the chip alone.
 pub fn run<S: Source, K: Sink, F: Flash>(
     alloc: Global,
     words: &[String],
@@ -51,8 +51,10 @@ pub fn run<S: Source, K: Sink, F: Flash>(
     sink: &mut K,
     flash: F,
 ) -> Outcome<F>
-    // What was read and written, why the run ended, and what is known of the events and of the chip that is handed back.
-    ensures run { ¬ IsShow (map string_bytes words.now) → ¬ IsDrive (map string_bytes words.now) → ProgramIs (map string_bytes words.now) (F.geometry flash)
+    // What was read and written, why the run ended, and what is known of the events and of the chip that is handed
+    // back.
+    ensures run { ¬ IsShow (map string_bytes words.now) → ¬ IsDrive (map string_bytes words.now)
+        → ProgramIs (map string_bytes words.now) (F.geometry flash)
         (IsTranscript (named_unit (map string_bytes words.now)) (F.geometry flash)
         (F.faults flash) (F.faults result.flash) (F.pages flash) (F.pages result.flash))
         (AreCountsOn (named_unit (map string_bytes words.now)) (F.geometry flash) (F.pages flash))
@@ -66,7 +68,8 @@ pub fn run<S: Source, K: Sink, F: Flash>(
         (only_answers (map string_bytes words.now))
         (λ (d : Drive). IsTranscript (named_unit (map string_bytes words.now)) (F.geometry flash)
         (F.faults flash) (F.faults result.flash) (F.pages flash) (F.pages result.flash) d.progress)
-        (λ (d : Drive). AreCountsOn (named_unit (map string_bytes words.now)) (F.geometry flash) (F.pages flash) d.progress)
+        (λ (d : Drive). AreCountsOn (named_unit (map string_bytes words.now)) (F.geometry flash) (F.pages flash)
+        d.progress)
         ((source.new ≡ source.old) × (F.pages result.flash ≡ F.pages flash))
         (S.left source.old) (S.left source.new) (K.written sink.old) (K.written sink.new) 1000000 result.status }
     // What is shown of each line, and why the run ended.
@@ -76,8 +79,8 @@ pub fn run<S: Source, K: Sink, F: Flash>(
     ensures geometry { F.geometry result.flash ≡ F.geometry flash }
     ensures source_faults { SourceEnds (S.faults source.old) (S.faults source.new) result.status }
     ensures sink_faults { SinkEnds (K.faults sink.old) (K.faults sink.new) result.status }
-    // The headline: each block that a read carries was allowed just before it, and over a sound chip each RESPONSE that ends a read
-    // is GOOD or stands directly behind a read of the chip that failed.
+    // The headline: each block that a read carries was allowed just before it, and over a sound chip each RESPONSE that
+    // ends a read is GOOD or stands directly behind a read of the chip that failed.
     ensures reads_allowed { IsPlanned (map string_bytes words.now) (F.geometry flash)
         → IsChipOf (named_unit (map string_bytes words.now)) (F.geometry flash) (F.pages flash)
         → Tells result.status (K.written sink.old) (K.written sink.new)
@@ -96,9 +99,10 @@ pub fn run<S: Source, K: Sink, F: Flash>(
     ensures drained { IsReplay (map string_bytes words.now) → result.status ≡ Status.Done
         → DrainsAll (sizes_on (named_unit (map string_bytes words.now)) (F.geometry flash))
         (S.left source.old) (S.left source.new) (K.written sink.old) (K.written sink.new) }
-    // A drive over a sound chip that was read to its end: where each answer is GOOD, the blocks of each read are those of
-    // a plain list of blocks to which the lines are applied one after another, with HPB and without; and where no call of
-    // the chip failed, each request is answered GOOD or cut by a reset.
+    // A drive over a sound chip that was read to its end: where each answer is GOOD, the blocks of each read are those
+    // of a plain list of blocks to which the lines are applied one after another, with HPB and without; and where no
+    // call of the chip failed, each request is answered GOOD, is cut by a reset, or is a write that finds no sequence
+    // number left.
     ensures flat_answers { IsDrive (map string_bytes words.now)
         → IsChipOf (named_unit (map string_bytes words.now)) (F.geometry flash) (F.pages flash)
         → result.status ≡ Status.Done
@@ -109,9 +113,11 @@ pub fn run<S: Source, K: Sink, F: Flash>(
         (S.left source.old) (S.left source.new) (K.written sink.old) (K.written sink.new) }
     // Where no call of the source or the sink failed, the status is a function of the text alone.
     ensures by_text { IsPlanned (map string_bytes words.now) (F.geometry flash)
-        → EndsByText is_trace_line (S.left source.old) (S.faults source.old) (S.faults source.new) (K.faults sink.old) (K.faults sink.new) result.status }
+        → EndsByText is_trace_line (S.left source.old) (S.faults source.old) (S.faults source.new) (K.faults sink.old)
+        (K.faults sink.new) result.status }
     ensures shown_by_text { IsShow (map string_bytes words.now)
-        → EndsByText is_shown_line (S.left source.old) (S.faults source.old) (S.faults source.new) (K.faults sink.old) (K.faults sink.new) result.status }
+        → EndsByText is_shown_line (S.left source.old) (S.faults source.old) (S.faults source.new) (K.faults sink.old)
+        (K.faults sink.new) result.status }
 {
     run_command(alloc, words, source, sink, flash)
 }
@@ -124,8 +130,10 @@ fn run_command<S: Source, K: Sink, F: Flash>(
     sink: &mut K,
     flash: F,
 ) -> Outcome<F>
-    // What was read and written, why the run ended, and what is known of the events and of the chip that is handed back.
-    ensures run { ¬ IsShow (map string_bytes words.now) → ¬ IsDrive (map string_bytes words.now) → ProgramIs (map string_bytes words.now) (F.geometry flash)
+    // What was read and written, why the run ended, and what is known of the events and of the chip that is handed
+    // back.
+    ensures run { ¬ IsShow (map string_bytes words.now) → ¬ IsDrive (map string_bytes words.now)
+        → ProgramIs (map string_bytes words.now) (F.geometry flash)
         (IsTranscript (named_unit (map string_bytes words.now)) (F.geometry flash)
         (F.faults flash) (F.faults result.flash) (F.pages flash) (F.pages result.flash))
         (AreCountsOn (named_unit (map string_bytes words.now)) (F.geometry flash) (F.pages flash))
@@ -139,7 +147,8 @@ fn run_command<S: Source, K: Sink, F: Flash>(
         (only_answers (map string_bytes words.now))
         (λ (d : Drive). IsTranscript (named_unit (map string_bytes words.now)) (F.geometry flash)
         (F.faults flash) (F.faults result.flash) (F.pages flash) (F.pages result.flash) d.progress)
-        (λ (d : Drive). AreCountsOn (named_unit (map string_bytes words.now)) (F.geometry flash) (F.pages flash) d.progress)
+        (λ (d : Drive). AreCountsOn (named_unit (map string_bytes words.now)) (F.geometry flash) (F.pages flash)
+        d.progress)
         ((source.new ≡ source.old) × (F.pages result.flash ≡ F.pages flash))
         (S.left source.old) (S.left source.new) (K.written sink.old) (K.written sink.new) 1000000 result.status }
     // What is shown of each line, and why the run ended.
@@ -172,7 +181,8 @@ fn run_replay<S: Source, K: Sink, F: Flash>(
     ensures run { (words : List (List ℕ)) → IsReplay words → named.chip ≡ named_chip words
         → named.unit ≡ cut_shape (named_unit words)
         → ProgramIs words (F.geometry flash)
-        (IsTranscript (named_unit words) (F.geometry flash) (F.faults flash) (F.faults result.flash) (F.pages flash) (F.pages result.flash))
+        (IsTranscript (named_unit words) (F.geometry flash) (F.faults flash) (F.faults result.flash) (F.pages flash)
+        (F.pages result.flash))
         (AreCountsOn (named_unit words) (F.geometry flash) (F.pages flash))
         ((source.new ≡ source.old) × (F.pages result.flash ≡ F.pages flash))
         (S.left source.old) (S.left source.new) (K.written sink.old) (K.written sink.new) 1000000 result.status }
@@ -282,7 +292,8 @@ fn replay<S: Source, K: Sink, F: Flash>(
 
 /// Ends a trace that was taken whole with what the device has counted.
 fn end_of_trace<K: Sink, F: Flash>(device: &Device<F>, output: &mut Output, sink: &mut K) -> Status
-    ensures ends { Finishes (K.written sink.old) (K.written sink.new) output.old (counts_text device.now.counts) (K.faults sink.old) (K.faults sink.new)
+    ensures ends { Finishes (K.written sink.old) (K.written sink.new) output.old (counts_text device.now.counts)
+        (K.faults sink.old) (K.faults sink.new)
         Status.Done result }
 {
     if make_room(output, sink).is_err() {

@@ -56,7 +56,8 @@ fn drain<K: Sink, F: Flash>(
     output: &mut Output,
     sink: &mut K,
 ) -> Result<(), Failed>
-    ensures serves { Serves Drain device.old device.new (K.written sink.old) (K.written sink.new) output.old output.new result }
+    ensures serves { Serves Drain device.old device.new (K.written sink.old) (K.written sink.new) output.old output.new
+        result }
     ensures grows { Grows (K.written sink.old) (K.written sink.new) }
     ensures cause { HasCause (K.faults sink.old) (K.faults sink.new) result }
 {
@@ -76,7 +77,8 @@ fn make_steps<K: Sink, F: Flash>(
     output: &mut Output,
     sink: &mut K,
 ) -> Result<(), Failed>
-    ensures serves { Serves (Steps count) device.old device.new (K.written sink.old) (K.written sink.new) output.old output.new result }
+    ensures serves { Serves (Steps count) device.old device.new (K.written sink.old) (K.written sink.new) output.old
+        output.new result }
     ensures grows { Grows (K.written sink.old) (K.written sink.new) }
     ensures cause { HasCause (K.faults sink.old) (K.faults sink.new) result }
 {
@@ -98,7 +100,8 @@ fn collect<K: Sink, F: Flash>(
     output: &mut Output,
     sink: &mut K,
 ) -> Result<(), Failed>
-    ensures serves { Serves (Collect count) device.old device.new (K.written sink.old) (K.written sink.new) output.old output.new result }
+    ensures serves { Serves (Collect count) device.old device.new (K.written sink.old) (K.written sink.new) output.old
+        output.new result }
     ensures grows { Grows (K.written sink.old) (K.written sink.new) }
     ensures cause { HasCause (K.faults sink.old) (K.faults sink.new) result }
 {
@@ -120,7 +123,8 @@ fn reset<K: Sink, F: Flash>(
     output: &mut Output,
     sink: &mut K,
 ) -> Result<(), Failed>
-    ensures serves { Serves ResetLine device.old device.new (K.written sink.old) (K.written sink.new) output.old output.new result }
+    ensures serves { Serves ResetLine device.old device.new (K.written sink.old) (K.written sink.new) output.old
+        output.new result }
     ensures grows { Grows (K.written sink.old) (K.written sink.new) }
     ensures cause { HasCause (K.faults sink.old) (K.faults sink.new) result }
 {
@@ -139,7 +143,8 @@ fn receive<K: Sink, F: Flash>(
     sink: &mut K,
 ) -> Result<(), Failed>
     requires { length bytes.now ≤ 65568 }
-    ensures serves { Serves (Upiu bytes.now) device.old device.new (K.written sink.old) (K.written sink.new) output.old output.new result }
+    ensures serves { Serves (Upiu bytes.now) device.old device.new (K.written sink.old) (K.written sink.new) output.old
+        output.new result }
     ensures grows { Grows (K.written sink.old) (K.written sink.new) }
     ensures cause { HasCause (K.faults sink.old) (K.faults sink.new) result }
 {
@@ -160,7 +165,8 @@ fn serve<K: Sink, F: Flash>(
     sink: &mut K,
 ) -> Result<(), Failed>
     requires { room_taken line ≤ 65568 }
-    ensures serves { Serves (line_said buffers.old.room.items line) device.old device.new (K.written sink.old) (K.written sink.new) buffers.old.output buffers.new.output result }
+    ensures serves { Serves (line_said buffers.old.room.items line) device.old device.new (K.written sink.old)
+        (K.written sink.new) buffers.old.output buffers.new.output result }
     ensures reader { buffers.new.reader ≡ buffers.old.reader }
     ensures grows { Grows (K.written sink.old) (K.written sink.new) }
     ensures cause { HasCause (K.faults sink.old) (K.faults sink.new) result }
@@ -190,7 +196,8 @@ pub(crate) fn take_turn<S: Source, K: Sink, F: Flash>(
 ) -> Turn
     requires { IsTrue buffers.old.reader.ended → IsAtEnd (S.left source.old) }
     ensures turn { TurnIs device.old device.new
-        (prepend_known buffers.old.reader.held (S.left source.old)) (prepend_known buffers.new.reader.held (S.left source.new))
+        (prepend_known buffers.old.reader.held (S.left source.old))
+        (prepend_known buffers.new.reader.held (S.left source.new))
         (K.written sink.old) (K.written sink.new) buffers.old.output buffers.new.output result }
     ensures at_end { IsTrue buffers.new.reader.ended → IsAtEnd (S.left source.new) }
     // The source is asked only once all that was gathered is written.

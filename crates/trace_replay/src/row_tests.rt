@@ -525,8 +525,8 @@ const THREE_BLOCKS: [(&str, &str); 4] = [
     ("D", "< 21000002 z z z z z z z"),
 ];
 
-/// Entries of two blocks are prefetched under read id 127. The first read uses them up, and the second one tries that of
-/// its CDB in vain. Read id 128 doesn't exist.
+/// Entries of two blocks are prefetched under read id 127. The first read uses them up, and the second one tries that
+/// of its CDB in vain. Read id 128 doesn't exist.
 const PREFETCHED: [(&str, &str); 9] = [
     ("U 0120000c z z 00000010 fa020000 00007f00 10000000 z", ""),
     ("D", "< 3100000c z z z 00000010 z z z"),

@@ -41,7 +41,8 @@ pub(crate) fn show<S: Source, K: Sink>(
 fn show_line<S: Source, K: Sink>(buffers: &mut Buffers, source: &mut S, sink: &mut K) -> Turn
     requires { IsTrue buffers.old.reader.ended → IsAtEnd (S.left source.old) }
     ensures turn { ShowTurnIs
-        (prepend_known buffers.old.reader.held (S.left source.old)) (prepend_known buffers.new.reader.held (S.left source.new))
+        (prepend_known buffers.old.reader.held (S.left source.old))
+        (prepend_known buffers.new.reader.held (S.left source.new))
         (K.written sink.old) (K.written sink.new) buffers.old.output buffers.new.output result }
     ensures at_end { IsTrue buffers.new.reader.ended → IsAtEnd (S.left source.new) }
     // The source is asked only once all that was gathered is written.

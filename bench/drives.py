@@ -35,7 +35,7 @@ def lines_of(share, megabytes):
     """The lines of a drive that prints so much."""
     chance = random.Random(f"{share} {megabytes}")
     yield f"write 0 {BLOCKS} 1\ndrain\n"
-    yield "read 0 32\ndrain\n" * 4
+    yield "read 0 1\ndrain\n" * 4
     yield f"write 0 {DIRTY} 2\ndrain\n"
     for place in range(megabytes * 1_000_000 // READ_TEXT):
         is_clean = chance.random() * 100 < share

@@ -10,6 +10,7 @@ BLOCK = 4096
 BURST = 8 * BLOCK
 NO_PAGE = 2**64 - 1
 DEFAULTS = {"--blocks": 64, "--pages": 64, "--units": None, "--region": 10, "--sub": 8, "--held": 4, "--mode": "device"}
+KINDS = 0x00, 0x01, 0x02, 0x04, 0x16, 0x20, 0x21, 0x22, 0x24, 0x31, 0x36, 0x3F
 COUNTS = "steps", "lookups", "entries", "moved", "erased"
 
 
@@ -20,6 +21,19 @@ class Failed(Exception):
 def number(data, first, past):
     """A number in some bytes, the highest first."""
     return int.from_bytes(data[first:past], "big")
+
+
+def wire_fault(data):
+    """The number of the first condition by which bytes are no UPIU, or 0."""
+    conditions = (
+        lambda: len(data) < 32,
+        lambda: data[0] & 0xC0,
+        lambda: data[8],
+        lambda: len(data) != 32 + -(-number(data, 10, 12) // 4) * 4,
+        lambda: data[0] not in KINDS,
+        lambda: data[0] == 1 and data[4] & 15,
+    )
+    return next((place for place, holds in enumerate(conditions, 1) if holds()), 0)
 
 
 def upiu(code, tag, lun=0, flags=0, response=0, status=0, words=(), data=b""):
@@ -244,10 +258,18 @@ class Device:
     # What comes from the host.
 
     def receive(self, data):
+        """The answers to any bytes."""
+        fault = wire_fault(data)
+        if fault:
+            return [self.reject(data, fault)]
+        if data[0] == 0x00:
+            return [self.line(upiu(0x20, data[3]))]
         if data[0] == 0x02:
             return self.data_out(data)
-        if data[0] != 0x01:
-            raise ValueError("not a UPIU that this device knows")
+        return self.command(data) if data[0] == 0x01 else [self.reject(data, 7)]
+
+    def command(self, data):
+        """A COMMAND, which is refused or kept."""
         if any(task.tag == data[3] for task in self.tasks):
             return [self.reject(data, 8)]
         if data[2] != 0:
@@ -264,7 +286,8 @@ class Device:
         return []
 
     def reject(self, data, reason):
-        return self.line(upiu(0x3F, data[3], data[2], response=1, words=(reason << 24,)))
+        lun, tag = data[2:4] if len(data) >= 4 else (0, 0)
+        return self.line(upiu(0x3F, tag, lun, response=1, words=(reason << 24,)))
 
     def refused(self, data, code):
         return self.line(self.response(data[3], data[2], number(data, 12, 16), (5, code)))

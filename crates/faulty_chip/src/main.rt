@@ -1,5 +1,5 @@
-//! A program for tests: `ufshpb` over a chip of which one call fails. Its first word is the number of that call, from 1
-//! on; the words of `ufshpb` stand behind it. It tells nothing on standard error.
+//! A program for tests: `ufshpb` over a chip of which some calls fail. Its first word has the numbers of these calls, from
+//! 1 on, with a comma between two; the words of `ufshpb` stand behind it. It tells nothing on standard error.
 #![tactic(auto)]
 
 use command_words::{Command, Named, command_of};
@@ -16,10 +16,10 @@ fn main(rt: HostRuntime) -> ExitCode {
     let (Ok(first), Ok(words)) = (words_of(&rt, 0), words_of(&rt, 1)) else {
         return ExitCode::from(Status::Usage.number());
     };
-    let Some(call) = call_of(&first) else {
+    let Some(calls) = calls_of(alloc, &first) else {
         return ExitCode::from(Status::Usage.number());
     };
-    let Ok(flash) = chip_of(alloc, &words, call) else {
+    let Ok(flash) = chip_of(alloc, &words, calls) else {
         return ExitCode::from(Status::Memory.number());
     };
     let mut source = StdSource::new(rt.stdin());
@@ -28,22 +28,24 @@ fn main(rt: HostRuntime) -> ExitCode {
     ExitCode::from(outcome.status.number())
 }
 
-/// The number of the call that is to fail.
-fn call_of(words: &[String]) -> Option<u64> {
-    words.first()?.as_str().parse().ok()
+/// The numbers of the calls that are to fail, where the first word has them and there is memory for them.
+fn calls_of(alloc: Global, words: &[String]) -> Option<Vec<u64>> {
+    let mut calls = Vec::new(alloc);
+    for part in words.first()?.as_str().split(',') {
+        calls.push(part.parse().ok()?).ok()?;
+    }
+    Some(calls)
 }
 
-/// The chip that the words name, erased, of which this call fails; the smallest where they name none.
-fn chip_of(alloc: Global, words: &[String], call: u64) -> Result<MemFlash, NoMemory> {
+/// The chip that the words name, erased, of which these calls fail; the smallest where they name none.
+fn chip_of(alloc: Global, words: &[String], calls: Vec<u64>) -> Result<MemFlash, NoMemory> {
     let chip = match command_of(words) {
         Some(Command::Replay(Named { chip, .. })) => chip,
         Some(Command::Drive(driven)) => driven.named.chip,
         _ => LEAST,
     };
     let chip = if chip.is_within_limits() { chip } else { LEAST };
-    let mut fail_at = Vec::new(alloc);
-    fail_at.push(call)?;
-    MemFlash::new(alloc, chip, fail_at)
+    MemFlash::new(alloc, chip, calls)
 }
 
 /// The smallest chip.

@@ -216,10 +216,13 @@ def pattern(lba, seed):
     return bytes((31 * seed + 7 * lba + place) % 256 for place in range(BLOCK))
 
 
-def differs(words, lines, failing=(), last=None):
-    """In what a run isn't as foretold, if it is not."""
+def differs(words, lines, failing=(), last=None, seen=None):
+    """In what a run isn't as foretold, if it is not. What was printed goes to `seen`."""
+    run = Run(words, lines, failing)
+    if seen is not None:
+        seen += run.printed
     try:
-        came = Run(words, lines, failing).go()
+        came = run.go()
     except Differs as different:
         return str(different)
     return None if last in (None, came) else f"{came} and not {last}"

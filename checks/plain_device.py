@@ -39,7 +39,8 @@ def wire_fault(data):
 def upiu(code, tag, lun=0, flags=0, response=0, status=0, words=(), data=b""):
     """A UPIU of the device."""
     head = bytes((code, flags, lun, tag, 0, 0, response, status, 0, 0)) + len(data).to_bytes(2, "big")
-    return (head + b"".join(word.to_bytes(4, "big") for word in words)).ljust(32, b"\0") + data
+    head += b"".join(word.to_bytes(4, "big") for word in words)
+    return head.ljust(32, b"\0") + data.ljust(-(-len(data) // 4) * 4, b"\0")
 
 
 def sense_of(key, code):
@@ -344,7 +345,7 @@ class Device:
             is_there = region * self.regions.blocks_of("--region") < self.shape["--units"]
             return Task(data, "give up", entries=[region]) if is_there else 0x2400
         if cdb[1] == 3:
-            return Task(data, "give up", entries=list(self.regions.list) + list(self.regions.gone))
+            return Task(data, "give up", entries=range(self.regions.region_of(len(self.regions.heat) - 1) + 1))
         if cdb[1] != 2 or not 1 <= cdb[6] <= 127 or length % 8 or length > 2040:
             return 0x2400
         if lba + length // 8 > self.shape["--units"]:

@@ -18,13 +18,7 @@ mod chip_tests;
 #[cfg(test)]
 mod drive_tests;
 #[cfg(test)]
-mod hostile_tests;
-#[cfg(test)]
-mod oracle;
-#[cfg(test)]
 mod row_tests;
-#[cfg(test)]
-mod schedule_tests;
 #[cfg(test)]
 mod tests;
 #[cfg(test)]

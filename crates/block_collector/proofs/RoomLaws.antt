@@ -1,5 +1,7 @@
 -- Where there is room, and a block worth collecting.
-use Rattle.std.proofs.Common.{◌≡◌, ◌+◌, ◌-◌, ◌*◌, ◌<◌, ◌≤◌, ◌⊎◌, ℕ, List, zero, suc, Bool, true, false, cond, nat_eq, nat_lt, ◌&&◌, length, get_or, set, count_by, Option, None, Some, IfSome, IfNone, refl, sym, ap, ◌∙◌, subst, inl, inr, arith}
+use Rattle.std.proofs.Common.{◌≡◌, ◌+◌, ◌-◌, ◌*◌, ◌<◌, ◌≤◌, ◌⊎◌, ℕ, List, zero, suc, Bool, true, false, cond, nat_eq}
+use Rattle.std.proofs.Common.{nat_lt, ◌&&◌, length, get_or, set, count_by, Option, None, Some, IfSome, IfNone, refl}
+use Rattle.std.proofs.Common.{sym, ap, ◌∙◌, subst, inl, inr, arith}
 use Rattle.std.specs.Option.{option_or}
 use Rattle.std.proofs.lemmas.List.{take_all, length-set, get_or-set_other, get_or-set_same, set_past}
 use Rattle.std.proofs.lemmas.List.Sums.{sum_by-set}

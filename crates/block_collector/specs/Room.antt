@@ -1,6 +1,7 @@
 -- How many pages of each block are written, and what follows: the erased pages, the next page to write, the next block
 -- to erase.
-use Rattle.std.specs.Prelude.{◌≡◌, ℕ, ◌+◌, ◌-◌, ◌*◌, ◌<◌, ◌≤◌, Bool, nat_eq, nat_lt, ◌&&◌, min, if◌then◌else◌, List, [], ◌∷◌, length, map, sum_by, Option, None, MatchOption, slice_index, slice_set}
+use Rattle.std.specs.Prelude.{◌≡◌, ℕ, ◌+◌, ◌-◌, ◌*◌, ◌<◌, ◌≤◌, Bool, nat_eq, nat_lt, ◌&&◌, min, if◌then◌else◌, List, []}
+use Rattle.std.specs.Prelude.{◌∷◌, length, map, sum_by, Option, None, MatchOption, slice_index, slice_set}
 use Rattle.std.specs.Option.{option_map, option_map_or, option_or}
 use Rattle.std.specs.List.{range_with_len}
 use Rattle.flash_pages.specs.declared.chip.Geometry.{Geometry}

@@ -4,11 +4,13 @@
 mod blocks;
 mod laws;
 
-ghost use Rattle.std.specs.Prelude.{◌≡◌, ◌⊎◌, ◌+◌, ◌*◌, ◌<◌, ◌≤◌, ◌↔◌, None, Some, IfOk, IfNone, IfSome, IsNone, IsTrue, length, replicate, slice_index, slice_set};
+ghost use Rattle.std.specs.Prelude.{◌≡◌, ◌⊎◌, ◌+◌, ◌*◌, ◌<◌, ◌≤◌, ◌↔◌, None, Some, IfOk, IfNone, IfSome, IsNone};
+ghost use Rattle.std.specs.Prelude.{IsTrue, length, replicate, slice_index, slice_set};
 ghost use Rattle.std.specs.Option.{option_and_then};
 ghost use Rattle.flash_pages.specs.Chip.{IsWithinLimits};
 ghost use Rattle.page_validity.specs.ValidPages.{valid_count, next_valid};
-ghost use Rattle.block_collector.specs.Room.{erased_pages, frontier, open_block, one_more_written, HasOnePartly, HasSpare, IsChoice};
+ghost use Rattle.block_collector.specs.Room.{erased_pages, frontier, open_block, one_more_written, HasOnePartly};
+ghost use Rattle.block_collector.specs.Room.{HasSpare, IsChoice};
 
 use blocks::{choice, first_erased, first_partly_written, has_one_partly, has_spare};
 use flash_pages::Geometry;

@@ -1,5 +1,6 @@
 -- What a step does to the chip, and that fewer steps are left after it.
-use Rattle.std.proofs.Common.{◌≡◌, ◌≢◌, ◌⊎◌, ◌-◌, ◌*◌, ◌^◌, ◌<◌, ◌≤◌, ℕ, List, true, false, cond, nat_eq, nat_lt, length, set, Option, None, Some, MatchOption, refl, sym, ap, ◌∙◌, subst, inl, inr, arith}
+use Rattle.std.proofs.Common.{◌≡◌, ◌≢◌, ◌⊎◌, ◌-◌, ◌*◌, ◌^◌, ◌<◌, ◌≤◌, ℕ, List, true, false, cond, nat_eq, nat_lt}
+use Rattle.std.proofs.Common.{length, set, Option, None, Some, MatchOption, refl, sym, ap, ◌∙◌, subst, inl, inr, arith}
 use Rattle.std.specs.Option.{option_map_or, option_or}
 use Rattle.std.proofs.lemmas.Bool.{cases_Bool, eqb-true, lt-ltb, le-ltb}
 use Rattle.std.proofs.lemmas.List.Sums.{count_by-le-length}
@@ -12,7 +13,10 @@ use Rattle.flash_pages.proofs.Programming.{current-inside}
 use Rattle.page_validity.specs.ValidPages.{block_part}
 use Rattle.block_collector.specs.Room.{IsChoice}
 use Rattle.block_collector.proofs.Choices.{IsChoice-victim_of}
-use Rattle.collector_laws.specs.CollectStep.{Buffered, CollectState, Collected, Idle, Copied, Read, Freed, Step, chip_victim, written_counts, first_current, fresh, programmed, programmed_at, read_or_erase, copy_or_read, step_with, collect_step, IsHeld, IsCollectable}
+use Rattle.collector_laws.specs.CollectStep.{Buffered, CollectState, Collected, Idle, Copied, Read, Freed, Step}
+use Rattle.collector_laws.specs.CollectStep.{chip_victim, written_counts, first_current, fresh, programmed}
+use Rattle.collector_laws.specs.CollectStep.{programmed_at, read_or_erase, copy_or_read, step_with, collect_step}
+use Rattle.collector_laws.specs.CollectStep.{IsHeld, IsCollectable}
 use Rattle.collector_laws.specs.Changes.{CopiesBlock, FreesBlock, Changes, room_with, until_room, waiting, is_idle, uncollected, AreCollected}
 use Rattle.collector_laws.proofs.Counts.{erased_count-erased}
 use Rattle.collector_laws.proofs.Flags.{current-newest}

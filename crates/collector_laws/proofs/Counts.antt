@@ -1,6 +1,11 @@
 -- How many pages are kept (erased or current), erased, and current in a block, after a program and after an erase.
-use Rattle.std.proofs.Common.{◌≡◌, ◌≢◌, ◌+◌, ◌-◌, ◌*◌, ◌<◌, ◌≤◌, ◌⊎◌, ℕ, List, [], ◌∷◌, ◌++◌, zero, suc, Bool, true, false, cond, ◌||◌, nat_eq, length, get_or, set, map, take, drop, replicate, count_by, None, Some, refl, sym, ap, ◌∙◌, subst, inl, inr, zero-add, arith}
-use Rattle.std.proofs.lemmas.List.{length-map, length-set, get_or-set_same, get_or-set_other, get_or-map, ext_get_or, take-map, drop-map, take-append-drop, drop-drop, length-append, length-take-le, length-replicate, get_or-take, get_or-drop, get_or_append_left, get_or-append_right, get_or-replicate}
+use Rattle.std.proofs.Common.{◌≡◌, ◌≢◌, ◌+◌, ◌-◌, ◌*◌, ◌<◌, ◌≤◌, ◌⊎◌, ℕ, List, [], ◌∷◌, ◌++◌, zero, suc, Bool, true}
+use Rattle.std.proofs.Common.{false, cond, ◌||◌, nat_eq, length, get_or, set, map, take, drop, replicate, count_by}
+use Rattle.std.proofs.Common.{None, Some, refl, sym, ap, ◌∙◌, subst, inl, inr, zero-add, arith}
+use Rattle.std.proofs.lemmas.List.{length-map, length-set, get_or-set_same, get_or-set_other, get_or-map, ext_get_or}
+use Rattle.std.proofs.lemmas.List.{take-map, drop-map, take-append-drop, drop-drop, length-append, length-take-le}
+use Rattle.std.proofs.lemmas.List.{length-replicate, get_or-take, get_or-drop, get_or_append_left, get_or-append_right}
+use Rattle.std.proofs.lemmas.List.{get_or-replicate}
 use Rattle.std.proofs.lemmas.List.Folds.{fold-map, sum_by-replicate}
 use Rattle.std.proofs.lemmas.List.Sums.{sum_by-append, sum_by-set, sum_by-le-sum_by, count_by-le-length}
 use Rattle.std.proofs.lemmas.Bool.{cases_eq, cases_lt}

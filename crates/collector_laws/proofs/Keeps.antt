@@ -1,5 +1,6 @@
 -- A step of the collector, and a program of the host, leave the chip sound, and what they should of the unit.
-use Rattle.std.proofs.Common.{◌≡◌, ◌≢◌, ◌+◌, ◌*◌, ◌^◌, ◌<◌, ◌≤◌, ℕ, List, true, false, cond, nat_eq, [], length, get_or, set, Option, None, Some, MatchOption, refl, sym, ap, ◌∙◌, subst, inl, inr, arith}
+use Rattle.std.proofs.Common.{◌≡◌, ◌≢◌, ◌+◌, ◌*◌, ◌^◌, ◌<◌, ◌≤◌, ℕ, List, true, false, cond, nat_eq, [], length, get_or}
+use Rattle.std.proofs.Common.{set, Option, None, Some, MatchOption, refl, sym, ap, ◌∙◌, subst, inl, inr, arith}
 use Rattle.std.specs.Option.{option_map_or, option_or}
 use Rattle.std.proofs.lemmas.List.{set-get_or}
 use Rattle.std.proofs.lemmas.Bool.{cases_lt, eqb-false, both_ways}
@@ -14,7 +15,9 @@ use Rattle.flash_pages.proofs.Programming.{current-inside, erased_count-programm
 use Rattle.flash_pages.proofs.Units.{get_or-unit_of-place}
 use Rattle.flash_pages.proofs.EraseLaws.{unit_of-erased_between}
 use Rattle.page_validity.proofs.FirstBetween.{IsFirst, first_between-some, first_between-none}
-use Rattle.collector_laws.specs.CollectStep.{Buffered, CollectState, Idle, chip_victim, is_current_at, first_current, if_current, fresh, programmed, programmed_at, read_or_erase, copy_or_read, step_with, collect_step, IsBuffer, IsCollectable}
+use Rattle.collector_laws.specs.CollectStep.{Buffered, CollectState, Idle, chip_victim, is_current_at, first_current}
+use Rattle.collector_laws.specs.CollectStep.{if_current, fresh, programmed, programmed_at, read_or_erase, copy_or_read}
+use Rattle.collector_laws.specs.CollectStep.{step_with, collect_step, IsBuffer, IsCollectable}
 use Rattle.collector_laws.proofs.Flags.{newest-flag, current-newest}
 use Rattle.collector_laws.proofs.Room.{whole, HasFrontier, frontier_found}
 use Rattle.collector_laws.proofs.Sound.{next_seq-le, ChipOk-programmed, ChipOk-erased}

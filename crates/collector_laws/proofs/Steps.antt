@@ -1,5 +1,7 @@
 -- Each step that is not idle lowers what is left to do.
-use Rattle.std.proofs.Common.{◌≡◌, ◌≢◌, ◌+◌, ◌-◌, ◌*◌, ◌^◌, ◌<◌, ◌≤◌, ◌⊎◌, ℕ, List, [], ◌∷◌, ◌++◌, zero, suc, true, false, cond, nat_eq, length, get_or, set, take, drop, replicate, count_by, Option, None, Some, MatchOption, refl, sym, ap, ◌∙◌, subst, inl, inr, arith}
+use Rattle.std.proofs.Common.{◌≡◌, ◌≢◌, ◌+◌, ◌-◌, ◌*◌, ◌^◌, ◌<◌, ◌≤◌, ◌⊎◌, ℕ, List, [], ◌∷◌, ◌++◌, zero, suc, true}
+use Rattle.std.proofs.Common.{false, cond, nat_eq, length, get_or, set, take, drop, replicate, count_by, Option, None}
+use Rattle.std.proofs.Common.{Some, MatchOption, refl, sym, ap, ◌∙◌, subst, inl, inr, arith}
 use Rattle.std.specs.Option.{option_map_or, option_or}
 use Rattle.std.proofs.lemmas.List.{length-set, length-append, length-take-le, length-drop, length-replicate}
 use Rattle.std.proofs.lemmas.List.Sums.{sum_by-append, sum_by-le-sum_by, count_by-le-length}
@@ -15,9 +17,14 @@ use Rattle.page_validity.specs.ValidPages.{block_part}
 use Rattle.page_validity.proofs.BlockParts.{block_part-set_other, get_or-block_part}
 use Rattle.page_validity.proofs.FirstBetween.{IsFirst, first_between-some, first_between-none}
 use Rattle.collector_laws.specs.Changes.{is_kept, kept_count, stale_count, waiting, left_with, room_with}
-use Rattle.collector_laws.specs.CollectStep.{Buffered, CollectState, Idle, chip_victim, is_current_at, first_current, place_named, buffered, if_current, fresh, programmed, programmed_at, read_or_erase, copy_or_read, step_with, collect_step, collected, IsInBlock, IsHeld, IsBuffer, IsCollectable}
+use Rattle.collector_laws.specs.CollectStep.{Buffered, CollectState, Idle, chip_victim, is_current_at, first_current}
+use Rattle.collector_laws.specs.CollectStep.{place_named, buffered, if_current, fresh, programmed, programmed_at}
+use Rattle.collector_laws.specs.CollectStep.{read_or_erase, copy_or_read, step_with, collect_step, collected, IsInBlock}
+use Rattle.collector_laws.specs.CollectStep.{IsHeld, IsBuffer, IsCollectable}
 use Rattle.collector_laws.proofs.Flags.{newest-current, flag-newest, newest-flag, current-newest, one_newest-after}
-use Rattle.collector_laws.proofs.Counts.{kept_count-programmed, current_count-programmed, kept_count-erased, erased_count-erased, one_newest-erased, count_by-part, count_by-none, count_by-some, count_by-cons}
+use Rattle.collector_laws.proofs.Counts.{kept_count-programmed, current_count-programmed, kept_count-erased}
+use Rattle.collector_laws.proofs.Counts.{erased_count-erased, one_newest-erased, count_by-part, count_by-none}
+use Rattle.collector_laws.proofs.Counts.{count_by-some, count_by-cons}
 use Rattle.collector_laws.proofs.Room.{whole, length-part, HasFrontier, frontier_found, chosen}
 
 abbrev pub left : Geometry → CollectState → ℕ

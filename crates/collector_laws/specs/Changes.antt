@@ -1,11 +1,13 @@
 -- What a step of the collector does to the chip, and how many steps are left.
-use Rattle.std.specs.Prelude.{◌≡◌, ℕ, ◌+◌, ◌-◌, ◌*◌, ◌<◌, Bool, true, false, ◌||◌, nat_lt, if◌then◌else◌, List, length, count_by, slice_set, Option, None, Some}
+use Rattle.std.specs.Prelude.{◌≡◌, ℕ, ◌+◌, ◌-◌, ◌*◌, ◌<◌, Bool, true, false, ◌||◌, nat_lt, if◌then◌else◌, List, length}
+use Rattle.std.specs.Prelude.{count_by, slice_set, Option, None, Some}
 use Rattle.flash_pages.specs.declared.chip.Geometry.{Geometry}
 use Rattle.flash_pages.specs.Chip.{Page, Erased, Written, page_at, is_erased, erased_count, erase_block}
 use Rattle.flash_pages.specs.Place.{Place, IsPlace}
 use Rattle.flash_pages.specs.Unit.{current, block_of, next_seq}
 use Rattle.flash_pages.specs.Sound.{is_current, current_count, IsFull}
-use Rattle.collector_laws.specs.CollectStep.{Buffered, CollectState, Collected, Idle, Copied, Read, Freed, fresh, collect_step}
+use Rattle.collector_laws.specs.CollectStep.{Buffered, CollectState, Collected, Idle, Copied, Read, Freed, fresh}
+use Rattle.collector_laws.specs.CollectStep.{collect_step}
 
 -- an erased page is programmed with the bytes of a block, under the next sequence number
 pub record ProgramsBlock (old : List Page) (p : Place) (bytes : List ℕ) (new : List Page) : Type 0 where

@@ -1,9 +1,11 @@
 -- One step of the collector, on a chip, a held victim and a buffer.
-use Rattle.std.specs.Prelude.{◌≡◌, ℕ, ◌+◌, ◌-◌, ◌*◌, ◌^◌, ◌<◌, ◌≤◌, Bool, true, false, nat_eq, if◌then◌else◌, List, length, map, count_by, Option, None, Some, MatchOption, slice_set, zero, suc}
+use Rattle.std.specs.Prelude.{◌≡◌, ℕ, ◌+◌, ◌-◌, ◌*◌, ◌^◌, ◌<◌, ◌≤◌, Bool, true, false, nat_eq, if◌then◌else◌, List}
+use Rattle.std.specs.Prelude.{length, map, count_by, Option, None, Some, MatchOption, slice_set, zero, suc}
 use Rattle.std.specs.Option.{option_and_then, option_map_or, option_or}
 use Rattle.std.specs.List.{range_with_len}
 use Rattle.flash_pages.specs.declared.chip.Geometry.{Geometry}
-use Rattle.flash_pages.specs.Chip.{Page, Erased, Written, page_at, bytes_of, is_erased, erased_count, erase_block, IsWithinLimits}
+use Rattle.flash_pages.specs.Chip.{Page, Erased, Written, page_at, bytes_of, is_erased, erased_count, erase_block}
+use Rattle.flash_pages.specs.Chip.{IsWithinLimits}
 use Rattle.flash_pages.specs.Place.{Place}
 use Rattle.flash_pages.specs.Unit.{place_of, current, next_seq}
 use Rattle.flash_pages.specs.Sound.{block_pages, is_current, current_count, IsFull, ChipOk}

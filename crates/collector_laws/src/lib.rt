@@ -8,7 +8,8 @@ ghost use Rattle.flash_pages.specs.Place.{Place, IsPlace, index_of};
 ghost use Rattle.flash_pages.specs.Unit.{next_seq, unit_of};
 ghost use Rattle.flash_pages.specs.Sound.{ChipOk, is_current, current_count};
 ghost use Rattle.collector_laws.specs.Changes.{Changes, uncollected, until_room, AreCollected};
-ghost use Rattle.collector_laws.specs.CollectStep.{CollectState, Idle, IsCollectable, collect_step, collected, chip_frontier, programmed, written_counts};
+ghost use Rattle.collector_laws.specs.CollectStep.{CollectState, Idle, IsCollectable, collect_step, collected};
+ghost use Rattle.collector_laws.specs.CollectStep.{chip_frontier, programmed, written_counts};
 ghost use Rattle.page_validity.specs.ValidPages.{valid_count};
 ghost use Rattle.block_collector.specs.Room.{erased_pages, frontier, one_more_written};
 

@@ -14,7 +14,9 @@ use Rattle.command_words.specs.declared.words.Flag.TheVariants.{Plain, Answers}
 use Rattle.command_words.specs.declared.words.Given.{Given}
 use Rattle.command_words.specs.declared.words.OptionName.{OptionName}
 use Rattle.command_words.specs.declared.words.OptionName.TheVariants.{Blocks}
-use Rattle.command_words.specs.Words.{Alone, HasForm, IsOption, IsPart, IsReplay, Pair, Part, flag_name, has_flag, is_flag, is_plain, named_chip, named_unit, only_answers, part_name, parts_behind, parts_of, words_in}
+use Rattle.command_words.specs.Words.{Alone, HasForm, IsOption, IsPart, IsReplay, Pair, Part, flag_name, has_flag}
+use Rattle.command_words.specs.Words.{is_flag, is_plain, named_chip, named_unit, only_answers, part_name, parts_behind}
+use Rattle.command_words.specs.Words.{parts_of, words_in}
 use Rattle.command_words.specs.Options.{IsGiven, chip_given, flag_named, option_named, unit_given, with_flag, with_part, with_value, with_words}
 use Rattle.command_words.proofs.Options.{Gains, Name, Raised, Set, else_set, flag_is, gains, has, merged, no_flag_is, none_some, refused, same_name, some_is, then_some, word_of}
 

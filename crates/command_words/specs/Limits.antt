@@ -5,7 +5,8 @@ use Rattle.flash_store.specs.Index.{CanServe}
 use Rattle.region_state.specs.Shape.{IsWithinLimits}
 use Rattle.region_state.specs.declared.shape.Shape.{Shape}
 use Rattle.command_words.specs.declared.limits.Limit.{Limit}
-use Rattle.command_words.specs.declared.limits.Limit.TheVariants.{Blocks, Pages, AllPages, Units, Region, Sub, SubInRegion, Held}
+use Rattle.command_words.specs.declared.limits.Limit.TheVariants.{Blocks, Pages, AllPages, Units, Region, Sub}
+use Rattle.command_words.specs.declared.limits.Limit.TheVariants.{SubInRegion, Held}
 use Rattle.command_words.specs.declared.limits.NamedNumbers.{NamedNumbers}
 use Rattle.command_words.specs.Words.{RunsDevice, named_chip, named_unit}
 

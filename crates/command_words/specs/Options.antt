@@ -1,5 +1,6 @@
 -- What is read of the words behind the command, one part after another.
-use Rattle.std.specs.Prelude.{◌≡◌, ℕ, ◌-◌, ◌*◌, ◌^◌, min, true, List, [], ◌∷◌, find, Option, Some, None, codes, if◌then◌else◌, unwrap_or, option_map}
+use Rattle.std.specs.Prelude.{◌≡◌, ℕ, ◌-◌, ◌*◌, ◌^◌, min, true, List, [], ◌∷◌, find, Option, Some, None, codes}
+use Rattle.std.specs.Prelude.{if◌then◌else◌, unwrap_or, option_map}
 use Rattle.std.specs.Option.{option_and_then}
 use Rattle.std.specs.Str.{bytes_eq}
 use Rattle.std.specs.Str.Parse.{digits_value}
@@ -14,7 +15,8 @@ use Rattle.command_words.specs.declared.words.Flag.TheVariants.{Plain, Answers}
 use Rattle.command_words.specs.declared.words.Given.{Given}
 use Rattle.command_words.specs.declared.words.OptionName.{OptionName}
 use Rattle.command_words.specs.declared.words.OptionName.TheVariants.{Blocks, Pages, Units, Region, Sub, Held, Mode}
-use Rattle.command_words.specs.Words.{IsDrive, IsReplay, IsShow, Part, Alone, Pair, flag_name, is_flag, is_number, is_plain, name_of, named_chip, named_unit, only_answers}
+use Rattle.command_words.specs.Words.{IsDrive, IsReplay, IsShow, Part, Alone, Pair, flag_name, is_flag, is_number}
+use Rattle.command_words.specs.Words.{is_plain, name_of, named_chip, named_unit, only_answers}
 
 -- the option of this name
 unfoldable pub option_named : List ℕ → Option OptionName

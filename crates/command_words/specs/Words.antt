@@ -1,5 +1,6 @@
 -- The words of the command line, and the chip, the logical unit and the flags that they name.
-use Rattle.std.specs.Prelude.{◌≡◌, ◌≢◌, ◌⊎◌, ℕ, ◌-◌, ◌*◌, Bool, false, ◌&&◌, ◌||◌, nat_le, IsTrue, List, [], ◌∷◌, All, AllPairs, find, flat_map, length, Option, codes, if◌then◌else◌, unwrap_or, option_map}
+use Rattle.std.specs.Prelude.{◌≡◌, ◌≢◌, ◌⊎◌, ℕ, ◌-◌, ◌*◌, Bool, false, ◌&&◌, ◌||◌, nat_le, IsTrue, List, [], ◌∷◌, All}
+use Rattle.std.specs.Prelude.{AllPairs, find, flat_map, length, Option, codes, if◌then◌else◌, unwrap_or, option_map}
 use Rattle.std.specs.List.{list_all, list_any}
 use Rattle.std.specs.Char.{is_ascii_digit}
 use Rattle.std.specs.Str.{bytes_eq}

@@ -4,8 +4,11 @@ ghost use Rattle.std.specs.List.{list_all};
 ghost use Rattle.flash_pages.specs.Chip.{IsWithinLimits, erased_chip};
 ghost use Rattle.flash_pages.specs.MemFlash.{geometry_of, pages_of, plan_of};
 ghost use Rattle.command_words.specs.Limits.{named_numbers, numbers_of};
-ghost use Rattle.command_words.specs.Options.{IsCommand, IsGiven, chip_given, cut_shape, first_said, flag_named, mode_said, number_said, option_named, unit_given, with_flag, with_value, with_words};
-ghost use Rattle.command_words.specs.Words.{HasForm, IsDrive, IsPart, IsReplay, IsShow, RunsDevice, is_number, named_chip};
+ghost use Rattle.command_words.specs.Options.{IsCommand, IsGiven, chip_given, cut_shape, first_said, flag_named};
+ghost use Rattle.command_words.specs.Options.{mode_said, number_said, option_named, unit_given, with_flag, with_value};
+ghost use Rattle.command_words.specs.Options.{with_words};
+ghost use Rattle.command_words.specs.Words.{HasForm, IsDrive, IsPart, IsReplay, IsShow, RunsDevice, is_number};
+ghost use Rattle.command_words.specs.Words.{named_chip};
 
 use crate::limits::{NamedNumbers, room};
 use flash_pages::{Geometry, MemFlash};

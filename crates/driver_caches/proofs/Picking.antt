@@ -120,7 +120,8 @@ is_present_load cs before n r t c at inside is there = λ other here.
     sym is ∙ ap (λ (xs : List CacheState). slice_index_or xs n c) at.caches ∙ there_still cs n c ∙ same_inside cs n c other inside ∙ here in
     subst (λ (x : CacheState). IsTrue (is_present x.shape r t)) same there
 
-pub present_at : (c : CacheState) (cs : List CacheState) (n : ℕ) (new : CacheState) (r t : ℕ) → c ≡ slice_index_or cs n c → new.shape ≡ (slice_index_or cs n c).shape → IsTrue (is_present new.shape r t)
+pub present_at : (c : CacheState) (cs : List CacheState) (n : ℕ) (new : CacheState) (r t : ℕ) → c ≡ slice_index_or cs n c → new.shape ≡ (slice_index_or cs n c).shape
+    → IsTrue (is_present new.shape r t)
     → IsTrue (is_present c.shape r t)
 present_at c cs n new r t is same there =
     subst (λ (s : Shape). IsTrue (is_present s r t)) (same ∙ ap (λ (x : CacheState). x.shape) (sym is)) there

@@ -83,5 +83,6 @@ load_of None = None
 
 -- the subregion is one of its unit
 abbrev pub IsPresentLoad : List CacheState → Option Load → Type 0
-IsPresentLoad cs (Some l) = (cache : CacheState) → slice_index_or cs l.unit cache ≡ cache → IsTrue (is_present cache.shape l.region l.sub)
+IsPresentLoad cs (Some l) = (cache : CacheState) → slice_index_or cs l.unit cache ≡ cache
+    → IsTrue (is_present cache.shape l.region l.sub)
 IsPresentLoad cs None = Unit {0}

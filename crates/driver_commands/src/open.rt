@@ -226,7 +226,7 @@ impl OpenCommand {
         ensures { result ≡ is_next_data (sizes_in limits) self.now (upiu_at view.now) }
     {
         let count = view.count();
-        view.first() as usize == self.got.len()
+        view.offset() as usize == self.got.len()
             && count as usize == view.segment().len()
             && count != 0
             && self.got.len() + count as usize <= bytes_given(self.command, limits) as usize
@@ -237,7 +237,7 @@ impl OpenCommand {
         ensures { (lim : Limits) → result ≡ is_next_range (sizes_in lim) self.now (upiu_at view.now) }
     {
         let count = view.count();
-        view.first() == self.asked
+        view.offset() == self.asked
             && count != 0
             && u64::from(self.asked) + u64::from(count) <= u64::from(bytes_taken(self.command))
     }

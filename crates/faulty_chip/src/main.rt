@@ -1,5 +1,5 @@
-//! A program for tests: `ufshpb` over a chip of which some calls fail. Its first word has the numbers of these calls, from
-//! 1 on, with a comma between two; the words of `ufshpb` stand behind it. It tells nothing on standard error.
+//! A program for tests: `ufshpb` over a chip of which some calls fail. Its first word has the numbers of these calls,
+//! from 1 on, with a comma between two; the words of `ufshpb` stand behind it. It tells nothing on standard error.
 #![tactic(auto)]
 
 use command_words::{Command, Named, command_of};

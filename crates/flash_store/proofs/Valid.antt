@@ -1,5 +1,6 @@
 -- Valid pages: which entries they honour, and which pages are valid after a program.
-use Rattle.std.proofs.Common.{◌≡◌, ◌≢◌, ◌⊎◌, ◌+◌, ◌<◌, ℕ, List, Bool, true, false, cond, nat_eq, length, set, get_or, replicate, map, Option, Some, None, refl, sym, subst, ap, ◌∙◌, inl, inr, zero, suc, arith}
+use Rattle.std.proofs.Common.{◌≡◌, ◌≢◌, ◌⊎◌, ◌+◌, ◌<◌, ℕ, List, Bool, true, false, cond, nat_eq, length, set, get_or}
+use Rattle.std.proofs.Common.{replicate, map, Option, Some, None, refl, sym, subst, ap, ◌∙◌, inl, inr, zero, suc, arith}
 use Rattle.std.specs.Option.{option_map_or}
 use Rattle.std.proofs.lemmas.List.{length-set, get_or-set_same, get_or-set_other}
 use Rattle.std.proofs.lemmas.Bool.{cases_eq, eqb-true, eq-eqb, ne_eqb}

@@ -1,4 +1,5 @@
-ghost use Rattle.std.specs.Prelude.{◌≡◌, ◌+◌, ◌*◌, ◌^◌, ◌<◌, false, true, length, None, Some, IfOk, IfSome, OnOk, OnErr, is_ok, if◌then◌else◌};
+ghost use Rattle.std.specs.Prelude.{◌≡◌, ◌+◌, ◌*◌, ◌^◌, ◌<◌, false, true, length, None, Some, IfOk, IfSome, OnOk};
+ghost use Rattle.std.specs.Prelude.{OnErr, is_ok, if◌then◌else◌};
 ghost use Rattle.std.specs.Option.{ForSome};
 ghost use Rattle.hpb_outside.specs.Faults.{raised, HasCause};
 ghost use Rattle.flash_pages.specs.Chip.{page_at, is_erased, erased_count, erase_block};

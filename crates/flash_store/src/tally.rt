@@ -1,9 +1,11 @@
-ghost use Rattle.std.specs.Prelude.{◌≡◌, ◌⊎◌, ◌+◌, ◌*◌, ◌^◌, ◌<◌, ◌≤◌, ◌↔◌, IsTrue, true, false, None, Some, length, slice_index, slice_set, nat_lt, nat_eq, ◌&&◌, max, if◌then◌else◌, All, IfOk};
+ghost use Rattle.std.specs.Prelude.{◌≡◌, ◌⊎◌, ◌+◌, ◌*◌, ◌^◌, ◌<◌, ◌≤◌, ◌↔◌, IsTrue, true, false, None, Some, length};
+ghost use Rattle.std.specs.Prelude.{slice_index, slice_set, nat_lt, nat_eq, ◌&&◌, max, if◌then◌else◌, All, IfOk};
 ghost use Rattle.hpb_outside.specs.Faults.{raised};
 ghost use Rattle.flash_pages.specs.Place.{IsPlace, index_of};
 ghost use Rattle.flash_pages.specs.Sound.{ChipOk};
 ghost use Rattle.flash_store.specs.Index.{HasShape, IsIndexed};
-ghost use Rattle.flash_store.specs.Scan.{IsTallied, IsScanned, IsScannedTo, IsGood, IsFollowed, noted, is_newer, seen, spare_at};
+ghost use Rattle.flash_store.specs.Scan.{IsTallied, IsScanned, IsScannedTo, IsGood, IsFollowed, noted, is_newer, seen};
+ghost use Rattle.flash_store.specs.Scan.{spare_at};
 
 use crate::tables::{Index, make_valid};
 use flash_pages::{Flash, Geometry, PageView, Spare};

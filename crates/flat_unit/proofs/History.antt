@@ -1,5 +1,6 @@
 -- What the definitions say of a history with one more event, or with the events of one call.
-use Rattle.std.proofs.Common.{Option, IsTrue, ◌≡◌, ℕ, ◌+◌, ◌^◌, ◌<◌, ◌≤◌, List, [], ◌∷◌, ◌++◌, length, Bool, not, ◌&&◌, nat_le, Some, None, true, false, inl, inr, arith, refl, sym, ◌∙◌, ap, subst, drop}
+use Rattle.std.proofs.Common.{Option, IsTrue, ◌≡◌, ℕ, ◌+◌, ◌^◌, ◌<◌, ◌≤◌, List, [], ◌∷◌, ◌++◌, length, Bool, not, ◌&&◌}
+use Rattle.std.proofs.Common.{nat_le, Some, None, true, false, inl, inr, arith, refl, sym, ◌∙◌, ap, subst, drop}
 use Rattle.std.proofs.lemmas.List.{append_assoc, append-nil}
 use Rattle.std.proofs.lemmas.Bool.Decides.{nat_tests}
 use Rattle.std.specs.Prelude.{flat_map, is_some, if◌then◌else◌}

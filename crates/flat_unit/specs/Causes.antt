@@ -1,6 +1,7 @@
 -- Why a task ends with a sense: the event that stands directly before it, or the state of the chip (this project's
 -- own).
-use Rattle.std.specs.Prelude.{◌≡◌, ◌⊎◌, ℕ, ◌+◌, ◌^◌, ◌≤◌, List, [], ◌∷◌, min, Option, Some, None, if◌then◌else◌, ◌==◌, ◌-◌}
+use Rattle.std.specs.Prelude.{◌≡◌, ◌⊎◌, ℕ, ◌+◌, ◌^◌, ◌≤◌, List, [], ◌∷◌, min, Option, Some, None, if◌then◌else◌, ◌==◌}
+use Rattle.std.specs.Prelude.{◌-◌}
 use Rattle.flash_pages.specs.declared.chip.ChipOp.TheVariants.{Read}
 use Rattle.hpb_sense.specs.Sense.{fixed_at}
 use Rattle.upiu_wire.specs.declared.kind.Kind.{Kind}

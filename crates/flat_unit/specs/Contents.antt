@@ -1,7 +1,8 @@
 -- What a flat unit may hold at a place after some events (reads and writes of SBC; what a write that was cut leaves is
 -- this project's own). A unit is the list of the blocks of all logical units. There are no pages, entries, regions or
 -- collection here.
-use Rattle.std.specs.Prelude.{ℕ, ◌+◌, ◌-◌, ◌*◌, ◌/◌, Bool, false, ◌&&◌, List, [], ◌∷◌, ◌++◌, length, filter, map, fold, slice_range, slice_index_or, Option, Some, None, if◌then◌else◌, ◌==◌, nat_lt, nat_le}
+use Rattle.std.specs.Prelude.{ℕ, ◌+◌, ◌-◌, ◌*◌, ◌/◌, Bool, false, ◌&&◌, List, [], ◌∷◌, ◌++◌, length, filter, map, fold}
+use Rattle.std.specs.Prelude.{slice_range, slice_index_or, Option, Some, None, if◌then◌else◌, ◌==◌, nat_lt, nat_le}
 use Rattle.flash_pages.specs.Place.{Place, index_of}
 use Rattle.hpb_cdb.specs.declared.cdb.Cdb.{Cdb}
 use Rattle.hpb_cdb.specs.declared.cdb.Cdb.TheVariants.{Write}

@@ -1,6 +1,7 @@
 -- The entries that READ BUFFER lists, and what they say (this project's own). An entry is the number of the page that
 -- holds a block, and 2 ^ 64 - 1 where none does.
-use Rattle.std.specs.Prelude.{◌≡◌, ◌<◌, ◌⊎◌, ◌^◌, ℕ, ◌+◌, ◌-◌, ◌*◌, Bool, false, not, ◌&&◌, ◌||◌, List, [], ◌∷◌, length, slice_range, Option, Some, None, if◌then◌else◌, ◌==◌, nat_le, MatchBool}
+use Rattle.std.specs.Prelude.{◌≡◌, ◌<◌, ◌⊎◌, ◌^◌, ℕ, ◌+◌, ◌-◌, ◌*◌, Bool, false, not, ◌&&◌, ◌||◌, List, [], ◌∷◌, length}
+use Rattle.std.specs.Prelude.{slice_range, Option, Some, None, if◌then◌else◌, ◌==◌, nat_le, MatchBool}
 use Rattle.std.specs.List.{flat_map, range_with_len}
 use Rattle.byteorder.specs.Endian.{big_bytes, big_number}
 use Rattle.flash_pages.specs.Place.{Place}

@@ -1,12 +1,14 @@
 -- The regions of each unit after some events, and what a GOOD RESPONSE tells the host of them (this project's own).
-use Rattle.std.specs.Prelude.{◌≡◌, ℕ, ◌==◌, Bool, true, false, ◌&&◌, List, [], ◌∷◌, length, take, drop, map, filter, fold, Option, Some, None, if◌then◌else◌}
+use Rattle.std.specs.Prelude.{◌≡◌, ℕ, ◌==◌, Bool, true, false, ◌&&◌, List, [], ◌∷◌, length, take, drop, map, filter}
+use Rattle.std.specs.Prelude.{fold, Option, Some, None, if◌then◌else◌}
 use Rattle.std.specs.List.{range_with_len}
 use Rattle.hpb_cdb.specs.declared.cdb.Cdb.{Cdb}
 use Rattle.hpb_cdb.specs.declared.cdb.Cdb.TheVariants.{Read, Write, HpbRead, ReadBuffer, InactOne, InactAll}
 use Rattle.hpb_sense.specs.declared.sense.Hint.{Hint}
 use Rattle.hpb_sense.specs.Sense.{hint_out}
 use Rattle.region_state.specs.declared.shape.Shape.{Shape}
-use Rattle.region_state.specs.Machine.{Machine, start, after_read, after_change, after_load, after_inactivation, after_all_inactive, after_reset, due, after_told}
+use Rattle.region_state.specs.Machine.{Machine, start, after_read, after_change, after_load, after_inactivation}
+use Rattle.region_state.specs.Machine.{after_all_inactive, after_reset, due, after_told}
 use Rattle.region_state.specs.Shape.{place_of}
 use Rattle.upiu_wire.specs.Upiu.{upiu_at}
 use Rattle.flat_unit.specs.declared.event.Event.{Event}

@@ -1,5 +1,6 @@
 -- Words for what holds of all histories (this project's own).
-use Rattle.std.specs.Prelude.{false, true, ◌⊎◌, ◌≡◌, ◌<◌, ◌≤◌, ◌^◌, ℕ, zero, suc, ◌+◌, Bool, List, [], ◌∷◌, length, map, ◌*◌, Option, Some, None, if◌then◌else◌}
+use Rattle.std.specs.Prelude.{false, true, ◌⊎◌, ◌≡◌, ◌<◌, ◌≤◌, ◌^◌, ℕ, zero, suc, ◌+◌, Bool, List, [], ◌∷◌, length, map}
+use Rattle.std.specs.Prelude.{◌*◌, Option, Some, None, if◌then◌else◌}
 use Rattle.std.specs.List.{AllByRecursion}
 use Rattle.flash_pages.specs.Place.{Place}
 use Rattle.hex.specs.Hex.{IsBytes}

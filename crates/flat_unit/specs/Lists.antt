@@ -1,6 +1,7 @@
 -- The lists of entries that were prefetched and are kept after some events, and the entry that a block of a read has
 -- (this project's own).
-use Rattle.std.specs.Prelude.{ℕ, ◌+◌, ◌*◌, Bool, not, ◌&&◌, List, [], ◌∷◌, length, filter, find, fold, Option, Some, None, if◌then◌else◌, ◌==◌, nat_le, slice_range}
+use Rattle.std.specs.Prelude.{ℕ, ◌+◌, ◌*◌, Bool, not, ◌&&◌, List, [], ◌∷◌, length, filter, find, fold, Option, Some}
+use Rattle.std.specs.Prelude.{None, if◌then◌else◌, ◌==◌, nat_le, slice_range}
 use Rattle.byteorder.specs.Endian.{big_number}
 use Rattle.hpb_cdb.specs.declared.cdb.Cdb.{Cdb}
 use Rattle.hpb_cdb.specs.declared.cdb.Cdb.TheVariants.{HpbRead, Prefetch}

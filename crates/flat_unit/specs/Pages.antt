@@ -1,5 +1,6 @@
 -- Which pages the chip of a device has of each place, and what its entries say of them (this project's own).
-use Rattle.std.specs.Prelude.{◌≡◌, ◌<◌, ℕ, Bool, true, false, ◌||◌, List, [], ◌∷◌, length, Option, Some, None, is_some, unwrap_or}
+use Rattle.std.specs.Prelude.{◌≡◌, ◌<◌, ℕ, Bool, true, false, ◌||◌, List, [], ◌∷◌, length, Option, Some, None, is_some}
+use Rattle.std.specs.Prelude.{unwrap_or}
 use Rattle.flash_pages.specs.Place.{Place, IsPlace}
 use Rattle.flat_unit.specs.Entries.{is_fresh, no_page}
 use Rattle.flat_unit.specs.History.{History}

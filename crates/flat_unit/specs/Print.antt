@@ -4,7 +4,8 @@ use Rattle.hex.specs.Hex.{encode_lower}
 use Rattle.flash_pages.specs.declared.chip.ChipOp.{ChipOp}
 use Rattle.flash_pages.specs.declared.chip.ChipOp.TheVariants.{Read, Program, Erase}
 use Rattle.flat_unit.specs.declared.event.Event.{Event}
-use Rattle.flat_unit.specs.declared.event.Event.TheVariants.{Host, Device, Reset, Moved, Failed, Cleared, Switched, Gone}
+use Rattle.flat_unit.specs.declared.event.Event.TheVariants.{Host, Device, Reset, Moved, Failed, Cleared, Switched}
+use Rattle.flat_unit.specs.declared.event.Event.TheVariants.{Gone}
 use Rattle.flat_unit.specs.History.{History}
 
 abbrev pub op_text : ChipOp → List ℕ

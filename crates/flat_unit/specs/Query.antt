@@ -1,6 +1,7 @@
 -- What answers a QUERY REQUEST (JESD220), and what it does. The two flags of HPB, the order of the tests and the code
 -- for each refusal are this project's own.
-use Rattle.std.specs.Prelude.{ℕ, ◌/◌, ◌%◌, Bool, true, false, not, ◌&&◌, ◌||◌, List, [], ◌∷◌, ◌++◌, replicate, if◌then◌else◌, ◌==◌}
+use Rattle.std.specs.Prelude.{ℕ, ◌/◌, ◌%◌, Bool, true, false, not, ◌&&◌, ◌||◌, List, [], ◌∷◌, ◌++◌, replicate}
+use Rattle.std.specs.Prelude.{if◌then◌else◌, ◌==◌}
 use Rattle.byteorder.specs.Endian.{big_bytes}
 use Rattle.upiu_wire.specs.declared.kind.Kind.TheVariants.{QueryResponse}
 use Rattle.upiu_wire.specs.Upiu.{Upiu}

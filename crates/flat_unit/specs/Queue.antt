@@ -1,6 +1,7 @@
 -- The tasks that a device keeps after some events, in order of acceptance, and whether HPB is on (SAM's task set, with
 -- this project's own rule that tasks run in order of arrival).
-use Rattle.std.specs.Prelude.{ℕ, ◌+◌, Bool, true, not, List, [], ◌∷◌, ◌++◌, filter, Option, Some, None, Result, Ok, Err, if◌then◌else◌}
+use Rattle.std.specs.Prelude.{ℕ, ◌+◌, Bool, true, not, List, [], ◌∷◌, ◌++◌, filter, Option, Some, None, Result, Ok, Err}
+use Rattle.std.specs.Prelude.{if◌then◌else◌}
 use Rattle.hpb_cdb.specs.declared.cdb.Cdb.{Cdb}
 use Rattle.hpb_cdb.specs.declared.fault.CdbFault.{CdbFault}
 use Rattle.upiu_wire.specs.declared.kind.Kind.{Kind}

@@ -1,5 +1,7 @@
 -- Which histories a trace has: one group of events for each line (this project's own).
-use Rattle.std.specs.Prelude.{◌≡◌, ◌⊎◌, ℕ, zero, suc, ◌+◌, ◌-◌, ◌*◌, ◌/◌, ◌≤◌, Bool, true, false, not, ◌&&◌, ◌||◌, List, [], ◌∷◌, ◌++◌, map, filter, length, All, sum_by, Option, Some, None, IsTrue, if◌then◌else◌, ◌==◌, nat_lt, nat_le, is_some, is_none, MatchBool}
+use Rattle.std.specs.Prelude.{◌≡◌, ◌⊎◌, ℕ, zero, suc, ◌+◌, ◌-◌, ◌*◌, ◌/◌, ◌≤◌, Bool, true, false, not, ◌&&◌, ◌||◌, List}
+use Rattle.std.specs.Prelude.{[], ◌∷◌, ◌++◌, map, filter, length, All, sum_by, Option, Some, None, IsTrue}
+use Rattle.std.specs.Prelude.{if◌then◌else◌, ◌==◌, nat_lt, nat_le, is_some, is_none, MatchBool}
 use Rattle.std.specs.List.{AllByRecursion, list_any}
 use Rattle.flash_pages.specs.declared.chip.ChipOp.{ChipOp}
 use Rattle.flash_pages.specs.Place.{Place}
@@ -14,7 +16,8 @@ use Rattle.flat_unit.specs.Queue.{on_after, tasks_after, at_rest}
 use Rattle.flat_unit.specs.Sizes.{Sizes}
 use Rattle.flat_unit.specs.Sound.{answers_to}
 use Rattle.flat_unit.specs.Task.{Task}
-use Rattle.flat_unit.specs.Work.{Work, ReadsBlocks, WritesBlocks, TakesList, ListsEntries, TellsCapacity, MovesNothing, work_of}
+use Rattle.flat_unit.specs.Work.{Work, ReadsBlocks, WritesBlocks, TakesList, ListsEntries, TellsCapacity, MovesNothing}
+use Rattle.flat_unit.specs.Work.{work_of}
 use Rattle.flat_unit.specs.Trace.{Line, Upiu, Steps, Collect, Drain, ResetLine, Blank}
 
 -- a run of lines without input that may go on: how many calls of `step` it lacks before its tasks must have ended,

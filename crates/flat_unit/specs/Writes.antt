@@ -1,6 +1,7 @@
 -- What the writes of a history brought: the blocks that came by DATA OUT, those that were answered GOOD, and their
 -- places (this project's own).
-use Rattle.std.specs.Prelude.{ℕ, ◌+◌, ◌-◌, ◌/◌, Bool, false, ◌&&◌, ◌||◌, List, [], ◌∷◌, length, sum_by, is_none, if◌then◌else◌}
+use Rattle.std.specs.Prelude.{ℕ, ◌+◌, ◌-◌, ◌/◌, Bool, false, ◌&&◌, ◌||◌, List, [], ◌∷◌, length, sum_by, is_none}
+use Rattle.std.specs.Prelude.{if◌then◌else◌}
 use Rattle.std.specs.List.{list_any}
 use Rattle.flash_pages.specs.Place.{Place}
 use Rattle.hpb_cdb.specs.declared.cdb.Cdb.{Cdb}

@@ -1,5 +1,6 @@
 //! What holds of all histories. Each function does nothing: its contract is the law.
-ghost use Rattle.std.specs.Prelude.{◌≡◌, ◌<◌, ◌≤◌, ◌+◌, ◌^◌, ℕ, Bool, true, IsTrue, List, [], ◌∷◌, Some, length, map, slice_range};
+ghost use Rattle.std.specs.Prelude.{◌≡◌, ◌<◌, ◌≤◌, ◌+◌, ◌^◌, ℕ, Bool, true, IsTrue, List, [], ◌∷◌, Some, length, map};
+ghost use Rattle.std.specs.Prelude.{slice_range};
 ghost use Rattle.flash_pages.specs.Place.{Place};
 ghost use Rattle.hpb_cdb.specs.Cdb.{needed_by};
 ghost use Rattle.hpb_cdb.specs.declared.cdb.Cdb.{Cdb};
@@ -13,7 +14,8 @@ ghost use Rattle.flat_unit.specs.Causes.{Caused};
 ghost use Rattle.flat_unit.specs.Command.{needed};
 ghost use Rattle.flat_unit.specs.Contents.{Block, Shown, candidates, is_among, leaving, offset_in, shown};
 ghost use Rattle.flat_unit.specs.History.{History, ◌▹◌};
-ghost use Rattle.flat_unit.specs.Laws.{NoneCut, ChangesNothing, FirstAlone, HaveRoom, IsRejectedFor, MovedAll, places_from, shown_by_first};
+ghost use Rattle.flat_unit.specs.Laws.{NoneCut, ChangesNothing, FirstAlone, HaveRoom, IsRejectedFor, MovedAll};
+ghost use Rattle.flat_unit.specs.Laws.{places_from, shown_by_first};
 ghost use Rattle.flat_unit.specs.Print.{print};
 ghost use Rattle.flat_unit.specs.Queue.{at_rest, tasks_after};
 ghost use Rattle.flat_unit.specs.Reads.{DrainsReads, ReadsAllowed, ReadsEndGood, ReadsWait};

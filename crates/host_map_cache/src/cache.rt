@@ -63,7 +63,8 @@ impl Cache {
     /// 8 bytes and a bit, and a byte for each subregion of that region; two bytes for each region of the unit, and five
     /// for each of its subregions. It writes all of these bytes but those of the lists.
     ///
-    /// The fault is `Geometry` exactly where the shape is outside its limits (`Shape::is_within_limits`), else `Memory`.
+    /// The fault is `Geometry` exactly where the shape is outside its limits (`Shape::is_within_limits`), else
+    /// `Memory`.
     pub fn new(alloc: Global, shape: Shape) -> Result<Cache, NewFault>
         ensures made { IfOk result (λ cache. cache ≡ empty_cache shape) }
         ensures geometry { result ≡ Err NewFault.Geometry → ¬ IsWithinLimits shape }

@@ -10,6 +10,7 @@ use Rattle.hpb_cdb.specs.declared.fault.CdbFault.TheVariants.{Opcode, Field, Ran
 use Rattle.hpb_cdb.specs.declared.limits.Limits.{Limits}
 use Rattle.hpb_cdb.specs.Cdb.{Spells, SpellsNothing, IsCdb, IsFault, has_good_fields, is_in_unit, has_opcode}
 use Rattle.hpb_cdb.specs.Read.{opcode_of, mode_of, spelled_by, judged, cdb_of}
+use Rattle.hpb_cdb.proofs.Branches.{either}
 
 -- the two kinds of answer
 abbrev answer : Cdb → Result Cdb CdbFault
@@ -30,10 +31,6 @@ spelled cdb (ReadBuffer region sub len) h = rw (h.0, h.1, h.2, h.3, h.4) refl
 spelled cdb (InactOne region) h = rw (h.0, h.1, h.2) refl
 spelled cdb (Prefetch lba id len) h = rw (h.0, h.1, h.2, h.3, h.4) refl
 spelled cdb InactAll h = rw (h.0, h.1) refl
-
-either : (P : Result Cdb CdbFault → Type 0) (b : Bool) {x y : Result Cdb CdbFault} → (b ≡ true → P x) → (b ≡ false → P y) → P (if b then x else y)
-either P true f g = f refl
-either P false f g = g refl
 
 -- bytes that spell a command have an opcode
 has_opcode-spells : (cdb : List ℕ) (command : Cdb) → Spells cdb command → has_opcode cdb ≡ true

@@ -2,7 +2,8 @@
 use Rattle.std.specs.Prelude.{ℕ, ◌==◌, List, Result, Ok, Err, slice_index, slice_range, if◌then◌else◌}
 use Rattle.byteorder.specs.Endian.{big_number}
 use Rattle.hpb_cdb.specs.declared.cdb.Cdb.{Cdb}
-use Rattle.hpb_cdb.specs.declared.cdb.Cdb.TheVariants.{TestReady, Read, Write, Capacity, Sync, HpbRead, ReadBuffer, Prefetch, InactOne, InactAll}
+use Rattle.hpb_cdb.specs.declared.cdb.Cdb.TheVariants.{TestReady, Read, Write, Capacity, Sync, HpbRead, ReadBuffer}
+use Rattle.hpb_cdb.specs.declared.cdb.Cdb.TheVariants.{Prefetch, InactOne, InactAll}
 use Rattle.hpb_cdb.specs.declared.fault.CdbFault.{CdbFault}
 use Rattle.hpb_cdb.specs.declared.fault.CdbFault.TheVariants.{Opcode, Field, Range}
 use Rattle.hpb_cdb.specs.declared.limits.Limits.{Limits}

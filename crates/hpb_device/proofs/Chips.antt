@@ -58,7 +58,8 @@ whole_programmed : (old new : StoreState) (lim : Limits) (held : List ℕ) (task
     → IsCollectableIn old (collecting old) → Programs old new held task rest start → IsWholeAfter old new.pages
 whole_programmed old new lim held task rest start ok units before programs =
     let place = place_of_write old lim task ok units programs.write programs.more in
-    let after = write_keeps old.geometry old.luns old.units (collecting old) before (nth_place task task.programmed) (slice_range held start (start + 4096)) place programs.numbered programs.writes.enough in
+    let after = write_keeps old.geometry old.luns old.units (collecting old) before (nth_place task task.programmed) (slice_range held start (start + 4096)) place programs.numbered
+    programs.writes.enough in
     whole_along old _ new.pages (ap (λ (s : CollectState). s.chip) programs.writes.at_frontier) (whole_of old _ before after)
 
 -- a step of a task, whatever it came to

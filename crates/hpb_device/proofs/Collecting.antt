@@ -258,7 +258,8 @@ module _ (old new : DeviceState) (is : IsCollecting old new) where
     held = is.held;
     erased = ap (λ (c : Counts). c.erased) counts;
     sound = let mid : DeviceState = record old { store = record old.store { pages = new.store.pages } } in
-        sound_along mid new (record { geometry = is.same.geometry; luns = is.same.luns; units = is.same.units }) refl (whole_collected old.store new.store moved (is.standing.ready is.ready) step).sound;
+        sound_along mid new (record { geometry = is.same.geometry; luns = is.same.luns; units = is.same.units }) refl
+        (whole_collected old.store new.store moved (is.standing.ready is.ready) step).sound;
   }
 
   -- what a call on a chip that isn't foreign leaves of a device over a foreign one

@@ -1,5 +1,6 @@
 -- What a device counts fits its history after a step.
-use Rattle.std.proofs.Common.{◌≡◌, ℕ, ◌+◌, ◌-◌, ◌*◌, ◌/◌, ◌^◌, ◌<◌, ◌≤◌, ◌==◌, Bool, true, false, List, [], ◌∷◌, drop, length, map, take, Some, None, refl, sym, ◌∙◌, ap, subst, arith, inl, inr, Option}
+use Rattle.std.proofs.Common.{◌≡◌, ℕ, ◌+◌, ◌-◌, ◌*◌, ◌/◌, ◌^◌, ◌<◌, ◌≤◌, ◌==◌, Bool, true, false, List, [], ◌∷◌, drop}
+use Rattle.std.proofs.Common.{length, map, take, Some, None, refl, sym, ◌∙◌, ap, subst, arith, inl, inr, Option}
 use Rattle.std.specs.Prelude.{if◌then◌else◌, is_some, sum_by}
 use Rattle.std.specs.Bool.{OnTrue}
 use Rattle.std.specs.List.{AllByRecursion}
@@ -63,7 +64,9 @@ use Rattle.hpb_device.specs.Task.{IsQueue, IsTaskOk, IsWaiting, bytes_taken, nex
 use Rattle.hpb_device.proofs.Chips.{pages_of, whole_after}
 use Rattle.hpb_device.proofs.Collecting.{moves_on}
 use Rattle.hpb_device.proofs.Commands.{takes_data, tries_none, tries_of}
-use Rattle.hpb_device.proofs.Counting.{Rises, adds_failed, adds_sent, adds_shown, counted_event, counted_moves, counted_quiet, counts_now, rise_entry, rise_lookup, rise_moving, rise_none, rise_step, scanned_idle, scanned_more, scanned_sent}
+use Rattle.hpb_device.proofs.Counting.{Rises, adds_failed, adds_sent, adds_shown, counted_event, counted_moves}
+use Rattle.hpb_device.proofs.Counting.{counted_quiet, counts_now, rise_entry, rise_lookup, rise_moving, rise_none}
+use Rattle.hpb_device.proofs.Counting.{rise_step, scanned_idle, scanned_more, scanned_sent}
 use Rattle.hpb_device.proofs.Going.{check_tells}
 use Rattle.hpb_device.proofs.Fetching.{entry_is}
 use Rattle.hpb_device.proofs.StepStands.{first_is, flat, none_programmed, reads_at}
@@ -220,7 +223,8 @@ sent_counts : (d : DeviceState) (task rest : Task) (others : List Task) (e : His
 sent_counts d task rest others e LookedUp out now head sends serves lists whole stale is at =
     looked_up d task others e head rest out sends now lists whole serves stale (subst (λ (c : Counts). Rises d.counts c 1 1 0 0) (sym is) (rise_lookup d.counts rest)) at
 sent_counts d task rest others e ByEntry out now head sends serves lists whole stale is at =
-    by_entry d task others e head rest out sends now serves.0 lists whole (tries_of (next_entry d.lists task) serves.0 task serves.1).is (subst (λ (c : Counts). Rises d.counts c 1 0 1 0) (sym is) (rise_entry d.counts rest)) at
+    by_entry d task others e head rest out sends now serves.0 lists whole (tries_of (next_entry d.lists task) serves.0 task serves.1).is
+    (subst (λ (c : Counts). Rises d.counts c 1 0 1 0) (sym is) (rise_entry d.counts rest)) at
 sent_counts d task rest others e ListPiece out now head pieces serves lists whole stale is at =
     let piece = take pieces.0 (entries_of d.store.pages task.lun (first_listed (limits_of d.shape) task.command + task.sent / 8) ((pieces.0 + 7) / 8)) in
     let t = flat task head.come in

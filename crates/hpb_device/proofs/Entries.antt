@@ -1,5 +1,7 @@
 -- A device's chip honours what the device has listed, after each call.
-use Rattle.std.proofs.Common.{◌≡◌, ◌⊎◌, ℕ, ◌+◌, ◌-◌, ◌*◌, ◌/◌, ◌%◌, ◌^◌, ◌<◌, ◌≤◌, ◌==◌, Bool, true, false, not, ◌&&◌, List, [], ◌∷◌, ◌++◌, length, length-take, take, Option, Some, None, refl, sym, ◌∙◌, ap, subst, arith, inl, inr}
+use Rattle.std.proofs.Common.{◌≡◌, ◌⊎◌, ℕ, ◌+◌, ◌-◌, ◌*◌, ◌/◌, ◌%◌, ◌^◌, ◌<◌, ◌≤◌, ◌==◌, Bool, true, false, not, ◌&&◌}
+use Rattle.std.proofs.Common.{List, [], ◌∷◌, ◌++◌, length, length-take, take, Option, Some, None, refl, sym, ◌∙◌, ap}
+use Rattle.std.proofs.Common.{subst, arith, inl, inr}
 use Rattle.std.specs.Prelude.{unwrap_or, if◌then◌else◌}
 use Rattle.std.specs.Bool.{OnTrue}
 use Rattle.std.specs.List.{AllByRecursion}
@@ -184,7 +186,8 @@ pub honoured_listed : (s : Sizes) (chip : List Page) (e : History) (task : Waiti
     → task.command ≡ ReadBuffer region sub len → task.sent % 8 ≡ 0 → task.sent < 2 ^ 32
     → length (take bytes (entries_from (λ (lba : ℕ). entry_for chip (record { lun = task.lun; lba = lba })) (first_block_of s region sub + task.sent / 8) count)) < 2 ^ 16
     → FreshHonoured s chip e
-    → FreshHonoured s chip (e ▹ Device (upiu_out (data_upiu DataIn task.lun task.tag task.sent (take bytes (entries_from (λ (lba : ℕ). entry_for chip (record { lun = task.lun; lba = lba })) (first_block_of s region sub + task.sent / 8) count)))))
+    → FreshHonoured s chip (e ▹ Device (upiu_out (data_upiu DataIn task.lun task.tag task.sent
+    (take bytes (entries_from (λ (lba : ℕ). entry_for chip (record { lun = task.lun; lba = lba })) (first_block_of s region sub + task.sent / 8) count)))))
 honoured_listed s chip e task others region sub len count bytes is few command whole offset_fits bytes_fit keeps =
     fresh_event s (current chip) e (Device (upiu_out (data_upiu DataIn task.lun task.tag task.sent piece))) lists keeps
   where
@@ -288,7 +291,8 @@ told_lists_none turn rest out tells =
 
 asked_lists_none : (turn : Turn) (rest : Task) (count : ℕ) (out : List ℕ) → Asks turn.task rest count out → ListsNone (sizes_of turn.old) turn.history (Device out)
 asked_lists_none turn rest count out asks =
-    subst (λ (b : List ℕ). ListsNone (sizes_of turn.old) turn.history (Device b)) (sym asks.sent) (transfer_lists_none (sizes_of turn.old) turn.history turn.task.lun turn.task.tag turn.task.asked count)
+    subst (λ (b : List ℕ). ListsNone (sizes_of turn.old) turn.history (Device b)) (sym asks.sent)
+    (transfer_lists_none (sizes_of turn.old) turn.history turn.task.lun turn.task.tag turn.task.asked count)
 
 -- a transfer that is no list of entries lists nothing
 pub sent_lists_none : (turn : Turn) (what : Transfer) (rest : Task) (out : List ℕ) → Transfers (limits_of turn.old.shape) turn.old.store what turn.task rest out
@@ -353,7 +357,8 @@ sent_entries turn what rest out sends pages head stand =
     entries_now turn.old turn.new (turn.history ▹ Device out) turn.same turn.shape (rw pages fresh) (rw head (untried_sent turn what rest out sends s (turn.history ▹ Device out) turn.new.lists))
 
 -- after an entry was tried in vain
-missed_entries : (turn : Turn) (rest : Task) (x : ℕ) → Misses turn.task rest → next_entry turn.old.lists turn.task ≡ Some x → turn.new.lists ≡ turn.old.lists → ¬ IsHonoured turn.old.store.pages (next_place turn.task) x
+missed_entries : (turn : Turn) (rest : Task) (x : ℕ) → Misses turn.task rest → next_entry turn.old.lists turn.task ≡ Some x → turn.new.lists ≡ turn.old.lists
+    → ¬ IsHonoured turn.old.store.pages (next_place turn.task) x
     → turn.new.store.pages ≡ turn.old.store.pages → turn.new.tasks ≡ rest ∷ turn.others → EntriesStand turn.old turn.history → EntriesStand turn.new turn.history
 missed_entries turn rest x misses entry lists refused pages head stand =
     let d = turn.old in
@@ -403,7 +408,8 @@ ended_entries turn out e none pages left fresh =
 pub stepped_entries : (segment : List ℕ) (turn : Turn) (progress : Progress) (result : Stepped) (out : List ℕ) → IsOfTask progress
     → Advances (limits_of turn.old.shape) turn.old.store turn.new.store turn.old.held turn.new.held turn.task progress out
     → ServesEntry (next_entry turn.old.lists turn.task) turn.old.store turn.task progress → turn.new.lists ≡ lists_stepped turn.old.lists turn.task turn.old.held progress
-    → Leaves progress segment turn.others turn.new.tasks turn.new.held result out → EntriesStand turn.old turn.history → EntriesStand turn.new (followed_by turn.history (events_of (group_of result out)))
+    → Leaves progress segment turn.others turn.new.tasks turn.new.held result out → EntriesStand turn.old turn.history
+    → EntriesStand turn.new (followed_by turn.history (events_of (group_of result out)))
 stepped_entries segment turn (Sends what rest) result out own advances serves lists leaves stand =
     rw (leaves.1) (sent_entries turn what rest out advances.0 (pages_of turn.old.store turn.new.store advances.1) leaves.0 stand)
 stepped_entries segment turn (Silent Missed rest) result out own advances serves lists leaves stand =
@@ -412,10 +418,12 @@ stepped_entries segment turn (Silent Missed rest) result out own advances serves
 stepped_entries segment turn (Silent Programmed rest) result out own advances serves lists leaves stand = rw (leaves.1) (programmed_entries turn rest advances.0.0 advances.0.1 leaves.0 stand)
 stepped_entries segment turn (Silent (Collected moved) rest) result out own advances serves lists leaves stand = absurd own
 stepped_entries segment turn (Ended reply) result out own advances serves lists leaves stand =
-    rw (leaves.2) (ended_entries turn out turn.history (same_lists_none (sizes_of turn.old) turn.history out _ leaves.3 (answer_lists_none (sizes_of turn.old) turn.history segment reply)) (pages_of turn.old.store turn.new.store advances.1) leaves.0 stand.fresh)
+    rw (leaves.2) (ended_entries turn out turn.history (same_lists_none (sizes_of turn.old) turn.history out _ leaves.3 (answer_lists_none (sizes_of turn.old) turn.history segment reply))
+    (pages_of turn.old.store turn.new.store advances.1) leaves.0 stand.fresh)
 stepped_entries segment turn (Failed what reply) result out own advances serves lists leaves stand =
     rw (leaves.2) (ended_entries turn out (turn.history ▹ CallFailed (op_of what))
-    (same_lists_none (sizes_of turn.old) (turn.history ▹ CallFailed (op_of what)) out _ leaves.3 (reply_lists_none (sizes_of turn.old) (turn.history ▹ CallFailed (op_of what)) reply)) advances.1 leaves.0
+    (same_lists_none (sizes_of turn.old) (turn.history ▹ CallFailed (op_of what)) out _ leaves.3 (reply_lists_none (sizes_of turn.old) (turn.history ▹ CallFailed (op_of what)) reply)) advances.1
+    leaves.0
     (honoured_stays (sizes_of turn.old) turn.old.store.pages turn.history (CallFailed (op_of what)) (λ p. refl) stand.fresh))
 
 -- the bytes of the host list nothing
@@ -460,7 +468,8 @@ kept_entries d now bytes e receives store shape lists stand =
 pub answered_entries : (d : DeviceState) (bytes : List ℕ) (reply : Reply) (out : List ℕ) (e : History) → out ≡ upiu_out (reply_upiu reply) → EntriesStand d e
     → EntriesStand d (e ▹ Host bytes ▹ Device out)
 answered_entries d bytes reply out e sent stand =
-    after_answer d out (e ▹ Host bytes) (subst (λ (b : List ℕ). ListsNone (sizes_of d) (e ▹ Host bytes) (Device b)) (sym sent) (reply_lists_none (sizes_of d) (e ▹ Host bytes) reply)) (after_host d bytes e stand)
+    after_answer d out (e ▹ Host bytes) (subst (λ (b : List ℕ). ListsNone (sizes_of d) (e ▹ Host bytes) (Device b)) (sym sent) (reply_lists_none (sizes_of d) (e ▹ Host bytes) reply))
+    (after_host d bytes e stand)
 
 -- an answer that ends the first task
 pub ending_entries : (d now : DeviceState) (luns : ℕ) (lim : Limits) (bytes : List ℕ) (reply : Reply) (out : List ℕ) (e : History) → IsQueue luns lim d.held d.tasks → EndsHead d now out

@@ -106,7 +106,8 @@ moved_group ReadPage out = inr refl
 moved_group (MovedPage lun lba) out = inl (refl, refl)
 moved_group (ErasedBlock block) out = inr refl
 
-group_by : (segment : List ℕ) (progress : Progress) (others tasks : List Task) (held : List ℕ) (result : Stepped) (out : List ℕ) → Leaves progress segment others tasks held result out → IsGroup (group_of result out)
+group_by : (segment : List ℕ) (progress : Progress) (others tasks : List Task) (held : List ℕ) (result : Stepped) (out : List ℕ) → Leaves progress segment others tasks held result out
+    → IsGroup (group_of result out)
 group_by segment (Sends what rest) others tasks held result out leaves = rw (leaves.1) (inr refl)
 group_by segment (Silent (Collected moved) rest) others tasks held result out leaves = rw (leaves.1) (moved_group moved out)
 group_by segment (Silent Missed rest) others tasks held result out leaves = rw (leaves.1) (inr refl)
@@ -272,9 +273,11 @@ silent_by : (segment : List ℕ) (old new : DeviceState) (task : Task) (others :
 silent_by segment old new task others (Sends what rest) result out tasks ok advances serves leaves keeps silent = absurd (sent_or_silent result _ leaves.1 silent)
 silent_by segment old new task others (Silent Missed rest) result out tasks ok advances serves leaves keeps silent = inr (serves.0, serves.1)
 silent_by segment old new task others (Silent Programmed rest) result out tasks ok advances serves leaves keeps silent =
-    inl (subst (λ (ts : List Waiting). has_asked ts ≡ true) (sym keeps.2) (has_asked_data old.held old.store.luns (limits_of old.shape) task keeps.0 (map waiting_of others) keeps.1 ok advances.0.1.write advances.0.1.more))
+    inl (subst (λ (ts : List Waiting). has_asked ts ≡ true) (sym keeps.2)
+    (has_asked_data old.held old.store.luns (limits_of old.shape) task keeps.0 (map waiting_of others) keeps.1 ok advances.0.1.write advances.0.1.more))
 silent_by segment old new task others (Silent (Collected moved) rest) result out tasks ok advances serves leaves keeps silent =
-    inl (subst (λ (ts : List Waiting). has_asked ts ≡ true) (sym keeps.2) (has_asked_data old.held old.store.luns (limits_of old.shape) task keeps.0 (map waiting_of others) keeps.1 ok advances.0.write advances.0.more))
+    inl (subst (λ (ts : List Waiting). has_asked ts ≡ true) (sym keeps.2)
+    (has_asked_data old.held old.store.luns (limits_of old.shape) task keeps.0 (map waiting_of others) keeps.1 ok advances.0.write advances.0.more))
 silent_by segment old new task others (Ended reply) result out tasks ok advances serves leaves keeps silent = absurd (sent_or_silent result _ leaves.2 silent)
 silent_by segment old new task others (Failed what reply) result out tasks ok advances serves leaves keeps silent = absurd (sent_or_silent result _ leaves.2 silent)
 
@@ -282,7 +285,8 @@ pub going_is_silent : (old new : DeviceState) (result : Stepped) (out : List ℕ
     → result.sent ≡ false
     → (has_asked tasks ≡ true) ⊎ ((x : ℕ) × (to_try (next_entry old.lists goes.task) goes.task ≡ Some x))
 going_is_silent old new result out tasks goes keeps silent =
-    silent_by _ old new goes.task goes.others goes.progress result out tasks goes.ok goes.advances goes.entries goes.leaves (subst (λ (ts : List Task). KeepsTasks ts old.held tasks) goes.was keeps) silent
+    silent_by _ old new goes.task goes.others goes.progress result out tasks goes.ok goes.advances goes.entries goes.leaves (subst (λ (ts : List Task). KeepsTasks ts old.held tasks) goes.was keeps)
+    silent
 
 -- a device is at rest where its tasks are
 goes_by : (kept : List Task) (held : List ℕ) (tasks : List Waiting) → KeepsTasks kept held tasks → ¬ AreAtRest kept → at_rest tasks ≡ false
@@ -338,7 +342,8 @@ at_rest_of device other = rest_by device.tasks other
 no_write_kept : (task rest : Task) (others tasks : List Task) → tasks ≡ rest ∷ others → rest.command ≡ task.command → KeepsNoWrite (task ∷ others) → KeepsNoWrite tasks
 no_write_kept task rest others tasks is same none = subst KeepsNoWrite (sym is) (ap is_write same ∙ none.0, none.1)
 
-no_write_by : (segment : List ℕ) (lim : Limits) (old new : StoreState) (held held_now : List ℕ) (task : Task) (progress : Progress) (others tasks : List Task) (left : List ℕ) (result : Stepped) (out : List ℕ)
+no_write_by : (segment : List ℕ) (lim : Limits) (old new : StoreState) (held held_now : List ℕ) (task : Task) (progress : Progress) (others tasks : List Task) (left : List ℕ) (result : Stepped)
+    (out : List ℕ)
     → Advances lim old new held held_now task progress out → Leaves progress segment others tasks left result out → KeepsNoWrite (task ∷ others) → KeepsNoWrite tasks
 no_write_by segment lim old new held held_now task (Sends what rest) others tasks left result out advances leaves none =
     no_write_kept task rest others tasks leaves.0 (same_command lim old what task rest out advances.0) none

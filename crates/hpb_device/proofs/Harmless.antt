@@ -12,6 +12,7 @@ use Rattle.upiu_wire.specs.WireFault.{number_of}
 use Rattle.flat_unit.specs.Command.{command_of, is_hpb, needed}
 use Rattle.flat_unit.specs.Reply.{has_tag, command_refusal, refusal_of_cdb, check_command, fault_rejection}
 use Rattle.flat_unit.specs.Senses.{no_unit, bad_field, unknown_opcode, sense_of_fault}
+use Rattle.hpb_cdb.proofs.Branches.{either}
 use Rattle.flat_unit.specs.Sizes.{Sizes}
 use Rattle.flat_unit.specs.Task.{Task as Waiting}
 use Rattle.flat_unit.specs.Harmless.{IsHarmless}
@@ -21,10 +22,9 @@ use Rattle.hpb_device.specs.declared.reply.Reply.TheVariants.{NopIn, Reject, Goo
 use Rattle.hpb_device.specs.Accept.{IsRejection}
 use Rattle.hpb_device.specs.Reply.{reply_upiu}
 
-either : (P : Upiu → Type 0) (b : Bool) {x y : Option Upiu} → (b ≡ true → (r : Upiu) → x ≡ Some r → P r) → (b ≡ false → (r : Upiu) → y ≡ Some r → P r) → (r : Upiu)
-    → (if b then x else y) ≡ Some r → P r
-either P true f g r is = f refl r is
-either P false f g r is = g refl r is
+-- so of whatever is answered
+abbrev Answers : (Upiu → Type 0) → Option Upiu → Type 0
+Answers P x = (r : Upiu) → x ≡ Some r → P r
 
 only : (P : Upiu → Type 0) (v : Upiu) → P v → (r : Upiu) → Some v ≡ Some r → P r
 only P v p r is = let same : v ≡ r = cc in subst P same p
@@ -38,9 +38,9 @@ check_harmless s tasks v sense fits none = response_harmless s tasks v.lun v.tag
 -- what answers a command ends no task
 pub command_harmless : (s : Sizes) (on : Bool) (tasks : List Waiting) (v : Upiu) → v.first < 2 ^ 32 → (r : Upiu) → command_refusal s on tasks v ≡ Some r → IsHarmless s tasks r
 command_harmless s on tasks v fits =
-    either P (list_any (has_tag v.tag) tasks) (λ _. only P _ (reject_harmless s tasks v.lun v.tag 8 (omega arith)))
-    (λ none. either P (nat_le s.luns v.lun) (λ _. only P _ (check_harmless s tasks v no_unit fits none))
-    (λ _. either P (nat_le s.room (length tasks)) (λ _. only P _ (response_harmless s tasks v.lun v.tag 0x28 v.first [] fits (omega arith) none))
+    either (Answers P) (list_any (has_tag v.tag) tasks) (λ _. only P _ (reject_harmless s tasks v.lun v.tag 8 (omega arith)))
+    (λ none. either (Answers P) (nat_le s.luns v.lun) (λ _. only P _ (check_harmless s tasks v no_unit fits none))
+    (λ _. either (Answers P) (nat_le s.room (length tasks)) (λ _. only P _ (response_harmless s tasks v.lun v.tag 0x28 v.first [] fits (omega arith) none))
     (λ _. by_cdb (command_of s v.cdb) none)))
   where
     P : Upiu → Type 0
@@ -49,8 +49,8 @@ command_harmless s on tasks v fits =
     by_cdb : (command : Result Cdb CdbFault) → list_any (has_tag v.tag) tasks ≡ false → (r : Upiu) → refusal_of_cdb s on v command ≡ Some r → P r
     by_cdb (Err fault) none = only P _ (check_harmless s tasks v (sense_of_fault fault) fits none)
     by_cdb (Ok command) none =
-        either P (is_hpb command && not on) (λ _. only P _ (check_harmless s tasks v unknown_opcode fits none))
-        (λ _. either P (nat_lt v.first (needed s command)) (λ _. only P _ (check_harmless s tasks v bad_field fits none)) (λ _. nothing P))
+        either (Answers P) (is_hpb command && not on) (λ _. only P _ (check_harmless s tasks v unknown_opcode fits none))
+        (λ _. either (Answers P) (nat_lt v.first (needed s command)) (λ _. only P _ (check_harmless s tasks v bad_field fits none)) (λ _. nothing P))
 
 -- a REJECT ends no task
 pub rejection_harmless : (s : Sizes) (tasks : List Waiting) (reply : Reply) → IsRejection reply → IsHarmless s tasks (reply_upiu reply)

@@ -209,7 +209,8 @@ pub record TellsGood (d now : DeviceState) (t : Waiting) (ws : List Waiting) (se
   pub shape : now.shape ≡ d.shape
   pub sizes : sizes_of d ≡ sizes_of now
 
-module _ (d now : DeviceState) (t : Waiting) (ws : List Waiting) (segment : List ℕ) (residual : ℕ) (out : List ℕ) (e : History) (tells : TellsGood d now t ws segment residual out e) (stand : HintsStand d e) where
+module _ (d now : DeviceState) (t : Waiting) (ws : List Waiting) (segment : List ℕ) (residual : ℕ) (out : List ℕ) (e : History) (tells : TellsGood d now t ws segment residual out e)
+    (stand : HintsStand d e) where
   abbrev s : Sizes
   s = sizes_of d
 

@@ -1,5 +1,6 @@
 -- How many steps a device takes at most, after each of its calls.
-use Rattle.std.proofs.Common.{◌%◌, ◌⊎◌, ◌≡◌, Option, ℕ, zero, suc, ◌+◌, ◌-◌, ◌*◌, ◌/◌, ◌<◌, ◌≤◌, Bool, true, false, nat_lt, min, List, [], ◌∷◌, ◌++◌, map, refl, sym, ap, subst, arith, Some, inl, inr, ◌∙◌}
+use Rattle.std.proofs.Common.{◌%◌, ◌⊎◌, ◌≡◌, Option, ℕ, zero, suc, ◌+◌, ◌-◌, ◌*◌, ◌/◌, ◌<◌, ◌≤◌, Bool, true, false}
+use Rattle.std.proofs.Common.{nat_lt, min, List, [], ◌∷◌, ◌++◌, map, refl, sym, ap, subst, arith, Some, inl, inr, ◌∙◌}
 use Rattle.std.proofs.lemmas.Bool.Decides.{nat_tests}
 use Rattle.std.proofs.Math.Nat.{mul-le-mul_left, mul-suc}
 use Rattle.std.specs.Prelude.{sum_by, if◌then◌else◌}
@@ -73,7 +74,8 @@ without_fewer lim pages wait now task others few =
     omega (arith, most, some)
 
 -- a step of the first task leaves fewer
-pub leaves_fewer : (segment : List ℕ) (lim : Limits) (pages wait now : ℕ) (task : Task) (progress : Progress) (others tasks : List Task) (held : List ℕ) (result : Stepped) (out : List ℕ) → now + 1 ≤ 2 * pages
+pub leaves_fewer : (segment : List ℕ) (lim : Limits) (pages wait now : ℕ) (task : Task) (progress : Progress) (others tasks : List Task) (held : List ℕ) (result : Stepped) (out : List ℕ)
+    → now + 1 ≤ 2 * pages
     → Leaves progress segment others tasks held result out
     → AllTasks (λ rest. steps_of lim pages now rest < steps_of lim pages wait task) progress → tasks_left lim pages now tasks < tasks_left lim pages wait (task ∷ others)
 leaves_fewer segment lim pages wait now task (Sends what rest) others tasks held result out few leaves less = rw (leaves.0) (omega (arith, less))
@@ -183,7 +185,8 @@ quiet_left lim pages wait now (head ∷ others) none =
 pub going_left : (device : DeviceState) (head : Task) (others : List Task) → device.tasks ≡ head ∷ others → 1 ≤ steps_left device
 going_left device head others was =
     let some = some_left (limits_of device.shape) device.store.geometry.pages (wait_of device.store) head in
-    let all : tasks_left (limits_of device.shape) device.store.geometry.pages (wait_of device.store) device.tasks ≡ tasks_left (limits_of device.shape) device.store.geometry.pages (wait_of device.store) (head ∷ others) =
+    let all : tasks_left (limits_of device.shape) device.store.geometry.pages (wait_of device.store) device.tasks
+    ≡ tasks_left (limits_of device.shape) device.store.geometry.pages (wait_of device.store) (head ∷ others) =
     ap (tasks_left (limits_of device.shape) device.store.geometry.pages (wait_of device.store)) was in
     omega (arith, some, all)
 

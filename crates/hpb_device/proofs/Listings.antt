@@ -1,5 +1,7 @@
 -- The chip of a device has the pages of its history, and what it lists tells of them, after each call.
-use Rattle.std.proofs.Common.{◌≡◌, ◌⊎◌, ℕ, ◌+◌, ◌-◌, ◌*◌, ◌/◌, ◌%◌, ◌^◌, ◌<◌, ◌≤◌, ◌==◌, Bool, true, false, ◌||◌, List, [], ◌∷◌, ◌++◌, filter, length, length-take, map, take, min, Option, Some, None, refl, sym, ◌∙◌, ap, subst, arith, inl, inr}
+use Rattle.std.proofs.Common.{◌≡◌, ◌⊎◌, ℕ, ◌+◌, ◌-◌, ◌*◌, ◌/◌, ◌%◌, ◌^◌, ◌<◌, ◌≤◌, ◌==◌, Bool, true, false, ◌||◌, List}
+use Rattle.std.proofs.Common.{[], ◌∷◌, ◌++◌, filter, length, length-take, map, take, min, Option, Some, None, refl, sym}
+use Rattle.std.proofs.Common.{◌∙◌, ap, subst, arith, inl, inr}
 use Rattle.std.specs.Prelude.{if◌then◌else◌, is_some, slice_range, slice_set, unwrap_or}
 use Rattle.std.specs.List.{AllByRecursion}
 use Rattle.std.proofs.lemmas.Bool.{false≢true}
@@ -461,7 +463,8 @@ programmed_listings had pages turn rest start programs head stand =
     fewer p one = same_programmed (k + 1) t (waiting_of now_task) ws ws p refl refl ∙ sym (ap (λ (ts : List Task). programmed_at ts p) head_is) ∙ one
 
 -- after the first task was answered GOOD
-good_listings : (had : Place → Bool) (pages : ℕ) (turn : Turn) (segment : List ℕ) (residual : ℕ) (out : List ℕ) → IsComplete turn.task → out ≡ upiu_out (told_upiu segment (Good turn.task.lun turn.task.tag residual))
+good_listings : (had : Place → Bool) (pages : ℕ) (turn : Turn) (segment : List ℕ) (residual : ℕ) (out : List ℕ) → IsComplete turn.task
+    → out ≡ upiu_out (told_upiu segment (Good turn.task.lun turn.task.tag residual))
     → turn.new.tasks ≡ turn.others
     → turn.new.store.pages ≡ turn.old.store.pages → ListingStands had pages turn.old turn.history → ListingStands had pages turn.new (turn.history ▹ Device out)
 good_listings had pages turn segment residual out complete sent left same stand =

@@ -55,7 +55,8 @@ foreign_with_task d task bytes lim luns chip first e queue begun follows at =
       keeps = keeps_more luns lim d.tasks d.held at.tasks task queue (waits_begun lim luns v task begun) at.keeps;
       stays = at.stays;
       unsound = at.unsound;
-      stands = foreign_as (sizes_of d) first (with_tasks (at.tasks ++ task_of v task.command ∷ []) (kept_of 0 d at.tasks)) (kept_of 0 (record d { tasks = d.tasks ++ task ∷ [] }) tasks) (e ▹ Host bytes)
+      stands = foreign_as (sizes_of d) first (with_tasks (at.tasks ++ task_of v task.command ∷ []) (kept_of 0 d at.tasks)) (kept_of 0 (record d { tasks = d.tasks ++ task ∷ [] }) tasks)
+          (e ▹ Host bytes)
           (ap (λ (t : Waiting). at.tasks ++ t ∷ []) (sym same)) refl now;
     }
 
@@ -101,7 +102,8 @@ foreign_with_reply d bytes reply out chip first e is follows at =
       stays = at.stays;
       unsound = at.unsound;
       stands = subst (λ (b : List ℕ). StandsForeign s first (kept_of 0 d at.tasks) (e ▹ Host bytes ▹ Device b)) (sym is)
-          (foreign_as s first (with_tasks (after_sent v v.kind at.tasks) (kept_of 0 d at.tasks)) (kept_of 0 d at.tasks) (e ▹ Host bytes ▹ Device (upiu_out v)) (sym answered.harmless.tasks_stay) refl now);
+          (foreign_as s first (with_tasks (after_sent v v.kind at.tasks) (kept_of 0 d at.tasks)) (kept_of 0 d at.tasks) (e ▹ Host bytes ▹ Device (upiu_out v)) (sym answered.harmless.tasks_stay) refl
+          now);
     }
 
 -- data that weren't asked for end the head

@@ -228,7 +228,8 @@ pub owes_nothing : (s : Sizes) (tasks : List Waiting) (bytes : List ℕ) → rep
 owes_nothing s tasks bytes is = ap (reply_events (effects_of s true tasks bytes)) is
 
 -- a device is what its parts are
-pub device_is : (d now : DeviceState) (tasks : List Task) (held : List ℕ) → now.store ≡ d.store → now.shape ≡ d.shape → now.regions ≡ d.regions → now.lists ≡ d.lists → now.tasks ≡ tasks → now.held ≡ held → now.counts ≡ d.counts
+pub device_is : (d now : DeviceState) (tasks : List Task) (held : List ℕ) → now.store ≡ d.store → now.shape ≡ d.shape → now.regions ≡ d.regions → now.lists ≡ d.lists → now.tasks ≡ tasks
+    → now.held ≡ held → now.counts ≡ d.counts
     → record d { tasks = tasks; held = held } ≡ now
 device_is d now tasks held store shape regions lists is_tasks is_held counts =
     λ i. record { store = sym store i; shape = sym shape i; regions = sym regions i; lists = sym lists i; tasks = sym is_tasks i; held = sym is_held i; counts = sym counts i }

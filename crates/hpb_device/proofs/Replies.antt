@@ -1,5 +1,7 @@
 -- What answers the host, by the tasks of a history that the device keeps.
-use Rattle.std.proofs.Common.{◌≡◌, ℕ, ◌+◌, ◌-◌, ◌*◌, ◌^◌, ◌<◌, ◌≤◌, ◌==◌, Bool, true, false, not, ◌&&◌, ◌||◌, nat_lt, nat_le, List, [], ◌∷◌, map, length, suc, Some, None, Result, Ok, Err, refl, sym, ◌∙◌, ap, subst, arith, add-zero, zero-add}
+use Rattle.std.proofs.Common.{◌≡◌, ℕ, ◌+◌, ◌-◌, ◌*◌, ◌^◌, ◌<◌, ◌≤◌, ◌==◌, Bool, true, false, not, ◌&&◌, ◌||◌, nat_lt}
+use Rattle.std.proofs.Common.{nat_le, List, [], ◌∷◌, map, length, suc, Some, None, Result, Ok, Err, refl, sym, ◌∙◌, ap}
+use Rattle.std.proofs.Common.{subst, arith, add-zero, zero-add}
 use Rattle.std.proofs.lemmas.Bool.Decides.{nat_tests}
 use Rattle.std.specs.List.{list_any}
 use Rattle.flash_pages.specs.declared.chip.Geometry.{Geometry}
@@ -135,7 +137,8 @@ by_data held kept task others v good at waits lun tag test =
     let same_tag : (kept.tag == v.tag) ≡ true = grind (arith, nat_tests) in
     rw (at.come, at.asked, at.lun, at.tag, at.expected, waiting, same_lun, same_tag, test) (choice good)
   where
-    choice : (b : Bool) → Rattle.std.proofs.Common.cond b None (Some (check v.lun v.tag (kept.expected - kept.come) wrong_data)) ≡ (elim b [ true ↦ None | false ↦ Some (check v.lun v.tag (kept.expected - kept.come) wrong_data) ])
+    choice : (b : Bool) → Rattle.std.proofs.Common.cond b None (Some (check v.lun v.tag (kept.expected - kept.come) wrong_data))
+        ≡ (elim b [ true ↦ None | false ↦ Some (check v.lun v.tag (kept.expected - kept.come) wrong_data) ])
     choice true = refl
     choice false = refl
 

@@ -42,7 +42,8 @@ use Rattle.hpb_device.proofs.Going.{refusing_sends, sent_or_silent}
 use Rattle.hpb_device.proofs.StepStands.{given_is}
 
 -- after a step that sent nothing
-silent_after : (segment : List ℕ) (old new : DeviceState) (task : Task) (others : List Task) (progress : Progress) (result : Stepped) (out : List ℕ) → IsTaskOk old.store.luns (limits_of old.shape) task
+silent_after : (segment : List ℕ) (old new : DeviceState) (task : Task) (others : List Task) (progress : Progress) (result : Stepped) (out : List ℕ)
+    → IsTaskOk old.store.luns (limits_of old.shape) task
     → Advances (limits_of old.shape) old.store new.store old.held new.held task progress out → Leaves progress segment others new.tasks new.held result out → result.sent ≡ false → WasSilent new.tasks
 silent_after segment old new task others (Sends what rest) result out ok advances leaves silent = absurd (sent_or_silent result _ leaves.1 silent)
 silent_after segment old new task others (Silent Missed rest) result out ok advances leaves silent = rw (leaves.0) (inl (ap (λ (t : Task). t.tried) advances.0.0.task_is))

@@ -1,5 +1,7 @@
 -- A device that stands at a history stands at it with the events of one step.
-use Rattle.std.proofs.Common.{◌≡◌, ℕ, ◌+◌, ◌-◌, ◌*◌, ◌/◌, ◌^◌, ◌<◌, ◌≤◌, true, List, [], ◌∷◌, length, drop, min, slice_range, map, length-take-le, Some, None, zero, suc, false, refl, sym, ◌∙◌, ap, subst, arith, inl, inr, ◌⊎◌}
+use Rattle.std.proofs.Common.{◌≡◌, ℕ, ◌+◌, ◌-◌, ◌*◌, ◌/◌, ◌^◌, ◌<◌, ◌≤◌, true, List, [], ◌∷◌, length, drop, min}
+use Rattle.std.proofs.Common.{slice_range, map, length-take-le, Some, None, zero, suc, false, refl, sym, ◌∙◌, ap, subst}
+use Rattle.std.proofs.Common.{arith, inl, inr, ◌⊎◌}
 use Rattle.std.proofs.Math.ListN.{drop_of_length-le}
 use Rattle.std.proofs.lemmas.List.{drop-drop}
 use Rattle.std.specs.Prelude.{slice_set, take}
@@ -32,7 +34,9 @@ use Rattle.flat_unit.specs.Causes.{HasCauseFor}
 use Rattle.flat_unit.specs.Writes.{moves, blocks_come, blocks_of_head, whole_blocks}
 use Rattle.flat_unit.specs.Sends.{MayEndWith}
 use Rattle.flat_unit.specs.Senses.{read_failed, write_failed, no_number}
-use Rattle.flat_unit.proofs.standing.OneCall.{FitsWire, cause_read, cause_write, cause_number, stands_shown, stands_data, stands_asked, stands_ended, stands_good, stands_cut, stands_failed, stands_programmed}
+use Rattle.flat_unit.proofs.standing.OneCall.{FitsWire, cause_read, cause_write, cause_number, stands_shown}
+use Rattle.flat_unit.proofs.standing.OneCall.{stands_data, stands_asked, stands_ended, stands_good, stands_cut}
+use Rattle.flat_unit.proofs.standing.OneCall.{stands_failed, stands_programmed}
 use Rattle.std.specs.List.{AllByRecursion}
 use Rattle.flat_unit.specs.History.{followed_by}
 use Rattle.flat_unit.specs.Replays.{events_of}
@@ -53,7 +57,9 @@ use Rattle.hpb_device.specs.declared.reply.Cause.TheVariants.{ReadFailed, WriteF
 use Rattle.hpb_device.specs.declared.advance.FailedCall.{FailedCall}
 use Rattle.hpb_device.specs.declared.advance.FailedCall.TheVariants.{MappedRead, EntryRead, WriteStep}
 use Rattle.hpb_device.specs.Reply.{cause_sense}
-use Rattle.hpb_device.specs.Advance.{Misses, IsComplete, HasNoNumber, Transfers, check, held_after, IsSameStore, op_of, SendsBlock, Lists, Tells, Asks, Programs, Fails, ReadsBlocks, entries_of, first_listed, capacity_of, nth_place, first_block}
+use Rattle.hpb_device.specs.Advance.{Misses, IsComplete, HasNoNumber, Transfers, check, held_after, IsSameStore, op_of}
+use Rattle.hpb_device.specs.Advance.{SendsBlock, Lists, Tells, Asks, Programs, Fails, ReadsBlocks, entries_of}
+use Rattle.hpb_device.specs.Advance.{first_listed, capacity_of, nth_place, first_block}
 use Rattle.hpb_device.specs.Keeps.{KeepsTasks, waiting_of}
 use Rattle.hpb_device.specs.Limits.{limits_of}
 use Rattle.hpb_device.specs.Reply.{reply_upiu, told_upiu}
@@ -105,8 +111,20 @@ drop-nil (suc n) = refl
 pub keeps_waiting : (luns : ℕ) (lim : Limits) (others : List Task) → AllByRecursion (IsWaiting luns lim) others → KeepsTasks others [] (map waiting_of others)
 keeps_waiting luns lim [] all = refl
 keeps_waiting luns lim (next ∷ others) all =
-    let is = all.0 in
-    (waiting_of next, record { lun = refl; tag = refl; command = refl; expected = refl; asked = sym is.none_asked; come = sym is.none_come; last = drop-nil (next.come - length {A = ℕ} []); sent = sym is.none_sent }, refl)
+    let is = all.0 in (
+      waiting_of next,
+      record {
+        lun = refl;
+        tag = refl;
+        command = refl;
+        expected = refl;
+        asked = sym is.none_asked;
+        come = sym is.none_come;
+        last = drop-nil (next.come - length {A = ℕ} []);
+        sent = sym is.none_sent;
+      },
+      refl,
+    )
 
 pub none_programmed : (luns : ℕ) (lim : Limits) (others : List Task) → AllByRecursion (IsWaiting luns lim) others → programmed_of others ≡ 0
 none_programmed luns lim [] all = refl
@@ -455,7 +473,8 @@ write_or_not (Write lba n) = inr (lba, n, refl)
 write_or_not _ = inl refl
 
 -- the head is complete, and is answered GOOD
-steps_good : (turn : Turn) (segment out : List ℕ) → length segment < 2 ^ 16 → IsComplete turn.task → out ≡ upiu_out (told_upiu segment (Good turn.task.lun turn.task.tag (turn.task.expected - turn.task.sent - turn.task.come)))
+steps_good : (turn : Turn) (segment out : List ℕ) → length segment < 2 ^ 16 → IsComplete turn.task
+    → out ≡ upiu_out (told_upiu segment (Good turn.task.lun turn.task.tag (turn.task.expected - turn.task.sent - turn.task.come)))
     → (turn.new.tasks ≡ turn.others) × (turn.new.held ≡ []) → turn.new.store.pages ≡ turn.old.store.pages → DeviceStands turn.new turn.first (turn.history ▹ Device out)
 steps_good turn segment out short complete sent none pages =
     let d = turn.old in

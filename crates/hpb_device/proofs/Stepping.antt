@@ -155,11 +155,16 @@ module _ (old new : DeviceState) (well : IsWell old) (shape : new.shape ≡ old.
         → Advances (limits_of old.shape) old.store new.store old.held new.held goes.task progress out
         → Leaves progress (told_in goes) goes.others new.tasks new.held result out → DeviceStands old first e → DeviceStands new first (told result out e)
     goes_stands (Silent (Collected moved) rest) first e is advances leaves at = rw (leaves.1) (moved_stands old new moved out first e (moved_is moved rest is advances leaves) at)
-    goes_stands (Silent Missed rest) first e is advances leaves at = steps (told_in goes) (told_short old new result out goes) (own_turn (Silent Missed rest) first e is tt at) (Silent Missed rest) result out tt advances leaves
-    goes_stands (Silent Programmed rest) first e is advances leaves at = steps (told_in goes) (told_short old new result out goes) (own_turn (Silent Programmed rest) first e is tt at) (Silent Programmed rest) result out tt advances leaves
-    goes_stands (Sends what rest) first e is advances leaves at = steps (told_in goes) (told_short old new result out goes) (own_turn (Sends what rest) first e is tt at) (Sends what rest) result out tt advances leaves
-    goes_stands (Ended reply) first e is advances leaves at = steps (told_in goes) (told_short old new result out goes) (own_turn (Ended reply) first e is tt at) (Ended reply) result out tt advances leaves
-    goes_stands (Failed what reply) first e is advances leaves at = steps (told_in goes) (told_short old new result out goes) (own_turn (Failed what reply) first e is tt at) (Failed what reply) result out tt advances leaves
+    goes_stands (Silent Missed rest) first e is advances leaves at = steps (told_in goes) (told_short old new result out goes) (own_turn (Silent Missed rest) first e is tt at) (Silent Missed rest)
+        result out tt advances leaves
+    goes_stands (Silent Programmed rest) first e is advances leaves at = steps (told_in goes) (told_short old new result out goes) (own_turn (Silent Programmed rest) first e is tt at)
+        (Silent Programmed rest) result out tt advances leaves
+    goes_stands (Sends what rest) first e is advances leaves at = steps (told_in goes) (told_short old new result out goes) (own_turn (Sends what rest) first e is tt at) (Sends what rest) result out
+        tt advances leaves
+    goes_stands (Ended reply) first e is advances leaves at = steps (told_in goes) (told_short old new result out goes) (own_turn (Ended reply) first e is tt at) (Ended reply) result out tt advances
+        leaves
+    goes_stands (Failed what reply) first e is advances leaves at = steps (told_in goes) (told_short old new result out goes) (own_turn (Failed what reply) first e is tt at) (Failed what reply) result
+        out tt advances leaves
 
     goes_entries : (progress : Progress) (first : First) (e : History) → goes.progress ≡ progress
         → Advances (limits_of old.shape) old.store new.store old.held new.held goes.task progress out

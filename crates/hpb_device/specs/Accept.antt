@@ -1,5 +1,6 @@
 -- What comes of bytes of the host.
-use Rattle.std.specs.Prelude.{⊤, ◌≡◌, ℕ, ◌+◌, ◌^◌, ◌<◌, ◌≤◌, Bool, true, false, not, ◌==◌, ◌&&◌, nat_le, List, [], ◌∷◌, length, Some, None, Result, Ok, Err}
+use Rattle.std.specs.Prelude.{⊤, ◌≡◌, ℕ, ◌+◌, ◌^◌, ◌<◌, ◌≤◌, Bool, true, false, not, ◌==◌, ◌&&◌, nat_le, List, [], ◌∷◌}
+use Rattle.std.specs.Prelude.{length, Some, None, Result, Ok, Err}
 use Rattle.hpb_cdb.specs.declared.limits.Limits.{Limits}
 use Rattle.hpb_cdb.specs.Cdb.{IsCdb}
 use Rattle.upiu_wire.specs.Upiu.{Upiu, upiu_at}
@@ -25,7 +26,18 @@ use Rattle.hpb_device.specs.Task.{WaitsForData, IsTaskOk, bytes_given}
 -- the task of a COMMAND, of which nothing is done yet
 pub record IsBegun (lim : Limits) (luns : ℕ) (upiu : Upiu) (task : Task) : Type 0 where
   pub command : IsCdb upiu.cdb lim task.command
-  pub task_is : task ≡ record { lun = upiu.lun; tag = upiu.tag; command = task.command; expected = upiu.first; given = bytes_given lim task.command; asked = 0; come = 0; sent = 0; programmed = 0; tried = false }
+  pub task_is : task ≡ record {
+    lun = upiu.lun;
+    tag = upiu.tag;
+    command = task.command;
+    expected = upiu.first;
+    given = bytes_given lim task.command;
+    asked = 0;
+    come = 0;
+    sent = 0;
+    programmed = 0;
+    tried = false;
+  }
   pub task_ok : IsTaskOk luns lim task
 
 -- the segment goes on with the data that the task waits for
@@ -36,7 +48,8 @@ pub record IsNextPiece (task : Task) (segment : List ℕ) : Type 0 where
 -- the DATA OUT goes on where the data that have come end, within what the task asked for
 abbrev pub goes_on : Task → Upiu → Bool
 goes_on task upiu =
-    (upiu.first == task.come) && ((upiu.count == length upiu.segment) && (not (upiu.count == 0) && nat_le (task.come + upiu.count) task.asked))
+    (upiu.first == task.come) && ((upiu.count == length upiu.segment)
+    && (not (upiu.count == 0) && nat_le (task.come + upiu.count) task.asked))
 
 -- data are taken where the first task waits for them
 abbrev pub TakesPiece : List Task → Upiu → List ℕ → Type 0

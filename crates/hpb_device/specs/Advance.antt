@@ -1,5 +1,6 @@
 -- What one step makes of the first task.
-use Rattle.std.specs.Prelude.{◌≡◌, ◌≢◌, ◌⊎◌, ℕ, ◌+◌, ◌-◌, ◌*◌, ◌/◌, ◌^◌, ◌<◌, ⊤, true, is_some, nat_lt, if◌then◌else◌, Option, Some, None, List, [], ◌++◌, length, take, min, slice_range, false}
+use Rattle.std.specs.Prelude.{◌≡◌, ◌≢◌, ◌⊎◌, ℕ, ◌+◌, ◌-◌, ◌*◌, ◌/◌, ◌^◌, ◌<◌, ⊤, true, is_some, nat_lt, if◌then◌else◌}
+use Rattle.std.specs.Prelude.{Option, Some, None, List, [], ◌++◌, length, take, min, slice_range, false}
 use Rattle.byteorder.specs.Endian.{big_bytes}
 use Rattle.hpb_outside.specs.Faults.{Rose}
 use Rattle.flash_pages.specs.declared.chip.ChipOp.{ChipOp}
@@ -149,8 +150,8 @@ op_of MappedRead = ReadCall
 op_of EntryRead = ReadCall
 op_of (WriteStep op) = op
 
--- the next call for a block of a write: the collector's where at most an erase block's worth of pages is erased, and else its
--- program
+-- the next call for a block of a write: the collector's where at most an erase block's worth of pages is erased, and
+-- else its program
 abbrev pub write_call : StoreState → ChipOp
 write_call old =
     if nat_lt old.geometry.pages (erased_count old.pages) then ProgramCall
@@ -201,8 +202,8 @@ held_after EntryList held = []
 held_after Ready held = []
 held_after _ held = held
 
--- What was done for a task that goes on, and for which nothing was sent. `start` is where the next block stands in the data that
--- are held.
+-- What was done for a task that goes on, and for which nothing was sent. `start` is where the next block stands in the
+-- data that are held.
 abbrev pub Does : (old new : StoreState) → (held : List ℕ) → Internal → (task rest : Task) → Type 0
 Does old new held Missed task rest = Misses task rest × (collecting new ≡ collecting old)
 Does old new held Programmed task rest = (start : ℕ) × Programs old new held task rest start
@@ -219,8 +220,8 @@ Advances lim old new held held_now task (Failed what reply) out =
     Fails old new task what reply × (new.pages ≡ old.pages)
 
 -- How the entry of the next block served it. An entry that is to be tried and is the number of the block's current page
--- gives the block, and any other is tried in vain; where none is to be tried the block is looked up. A call of the chip that
--- failed was due: the look-up found a page, or the entry named a valid one.
+-- gives the block, and any other is tried in vain; where none is to be tried the block is looked up. A call of the chip
+-- that failed was due: the look-up found a page, or the entry named a valid one.
 abbrev pub ServesEntry : Option ℕ → StoreState → Task → Progress → Type 0
 ServesEntry entry old task (Sends LookedUp rest) = to_try entry task ≡ None
 ServesEntry entry old task (Sends ByEntry rest) =

@@ -1,5 +1,6 @@
 -- What the calls of a device leave.
-use Rattle.std.specs.Prelude.{⊤, ◌≡◌, ◌≢◌, ◌⊎◌, ℕ, ◌+◌, ◌*◌, ◌<◌, ◌≤◌, List, [], ◌∷◌, ◌++◌, length, map, replicate, Option, Some, None, Bool, false, true}
+use Rattle.std.specs.Prelude.{⊤, ◌≡◌, ◌≢◌, ◌⊎◌, ℕ, ◌+◌, ◌*◌, ◌<◌, ◌≤◌, List, [], ◌∷◌, ◌++◌, length, map, replicate}
+use Rattle.std.specs.Prelude.{Option, Some, None, Bool, false, true}
 use Rattle.std.specs.Bool.{OnFalse}
 use Rattle.std.specs.List.{AllByRecursion}
 use Rattle.hpb_outside.specs.Faults.{Rose, raised}
@@ -90,10 +91,12 @@ abbrev pub moved_in : Internal → Option (ℕ × ℕ)
 moved_in (Collected moved) = moved_by moved
 moved_in _ = None
 
--- the tasks that are kept after a step, the data that are held, and what the step tells and sends: a GOOD RESPONSE has this
--- segment
-abbrev pub Leaves : Progress → (segment : List ℕ) → (others tasks : List Task) → (held : List ℕ) → Stepped → List ℕ → Type 0
-Leaves (Sends what rest) segment others tasks held result out = (tasks ≡ rest ∷ others) × (result ≡ stepped None None true)
+-- the tasks that are kept after a step, the data that are held, and what the step tells and sends: a GOOD RESPONSE has
+-- this segment
+abbrev pub Leaves : Progress → (segment : List ℕ) → (others tasks : List Task) → (held : List ℕ) → Stepped → List ℕ
+    → Type 0
+Leaves (Sends what rest) segment others tasks held result out = (tasks ≡ rest ∷ others)
+    × (result ≡ stepped None None true)
 Leaves (Silent what rest) segment others tasks held result out =
     (tasks ≡ rest ∷ others) × (result ≡ stepped None (moved_in what) false)
 Leaves (Ended reply) segment others tasks held result out =
@@ -233,8 +236,8 @@ pub record CollectsOn (old new : DeviceState) (result : Stepped) : Type 0 where
 abbrev pub Collects : (old new : DeviceState) → Stepped → Type 0
 Collects old new result = OnFalse result.idle (CollectsOn old new result)
 
--- the device after a reset: no task and no list of entries is kept, its chip is scanned anew, and each host is to be told that
--- all regions are forgotten
+-- the device after a reset: no task and no list of entries is kept, its chip is scanned anew, and each host is to be
+-- told that all regions are forgotten
 abbrev pub reset_of : DeviceState → DeviceState
 reset_of device = record device {
   regions = map after_reset device.regions;

@@ -1,6 +1,7 @@
 -- What a device has counted, and that it fits the history.
 use Rattle.std.specs.Prelude.{◌≡◌, ℕ, ◌+◌, ◌-◌, ◌*◌, ◌^◌, ◌≤◌, length, min, if◌then◌else◌}
-use Rattle.flat_unit.specs.Counts.{Counts as Exact, blocks_by_entry, blocks_by_fresh, blocks_read, reads_failed, sends, stretches, works}
+use Rattle.flat_unit.specs.Counts.{Counts as Exact, blocks_by_entry, blocks_by_fresh, blocks_read, reads_failed, sends}
+use Rattle.flat_unit.specs.Counts.{stretches, works}
 use Rattle.flat_unit.specs.History.{History}
 use Rattle.flat_unit.specs.Sizes.{Sizes}
 use Rattle.flat_unit.specs.Writes.{blocks_good, moves}

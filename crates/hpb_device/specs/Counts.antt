@@ -23,8 +23,8 @@ counted_moved counts (Page lun lba) = record counts { moved = raised counts.move
 counted_moved counts (Erased block) = record counts { erased = raised counts.erased }
 counted_moved counts _ = counts
 
--- what a step came to, but for the step itself: a read of a block that was looked up counts the look-up where it fails too, and no
--- other failed call counts one
+-- what a step came to, but for the step itself: a read of a block that was looked up counts the look-up where it fails
+-- too, and no other failed call counts one
 abbrev pub counted_progress : Counts → Progress → Counts
 counted_progress counts (Sends LookedUp rest) = record counts { lookups = raised counts.lookups }
 counted_progress counts (Sends ByEntry rest) = record counts { entries = raised counts.entries }

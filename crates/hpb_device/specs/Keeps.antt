@@ -17,7 +17,15 @@ pub record IsTaskOf (held : List ℕ) (kept : Kept) (task : Task) : Type 0 where
 -- the task of which nothing is done yet
 abbrev pub waiting_of : Kept → Task
 waiting_of kept =
-    record { lun = kept.lun; tag = kept.tag; command = kept.command; expected = kept.expected; asked = 0; come = []; sent = 0 }
+    record {
+      lun = kept.lun;
+      tag = kept.tag;
+      command = kept.command;
+      expected = kept.expected;
+      asked = 0;
+      come = [];
+      sent = 0;
+    }
 
 -- the first task has come as far as the device says, and nothing is done yet for the others
 abbrev pub KeepsTasks : List Kept → List ℕ → List Task → Type 0

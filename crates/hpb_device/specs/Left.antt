@@ -1,5 +1,6 @@
 -- How many steps a device takes at most before it is at rest.
-use Rattle.std.specs.Prelude.{◌≡◌, ℕ, Bool, nat_lt, false, zero, suc, ◌+◌, ◌-◌, ◌*◌, ◌/◌, if◌then◌else◌, min, List, [], ◌∷◌, sum_by}
+use Rattle.std.specs.Prelude.{◌≡◌, ℕ, Bool, nat_lt, false, zero, suc, ◌+◌, ◌-◌, ◌*◌, ◌/◌, if◌then◌else◌, min, List, []}
+use Rattle.std.specs.Prelude.{◌∷◌, sum_by}
 use Rattle.std.specs.List.{AllByRecursion}
 use Rattle.collector_laws.specs.Changes.{until_room}
 use Rattle.flash_store.specs.Store.{StoreState, collecting}
@@ -13,8 +14,8 @@ use Rattle.hpb_device.specs.declared.task.Work.TheVariants.{ReadBlocks, WriteBlo
 use Rattle.hpb_device.specs.Task.{bytes_given}
 use Rattle.hpb_device.specs.Work.{work_of}
 
--- the steps of so many blocks of a write: the collector makes so many before the first one is programmed, and two for each page
--- of an erase block, less one, before each other
+-- the steps of so many blocks of a write: the collector makes so many before the first one is programmed, and two for
+-- each page of an erase block, less one, before each other
 abbrev pub write_steps : (pages wait : ℕ) → (blocks : ℕ) → ℕ
 write_steps pages wait zero = 0
 write_steps pages wait (suc more) = 2 * pages * more + wait + 1
@@ -35,12 +36,13 @@ abbrev pub unprogrammed_by : Work → (programmed : ℕ) → ℕ
 unprogrammed_by (WriteBlocks lba n) programmed = n - programmed
 unprogrammed_by _ programmed = 0
 
--- the steps of a task: one for each piece that is sent, one for each entry that may be tried, one for each READY TO TRANSFER,
--- those of its blocks that are to be programmed, and one for its answer
+-- the steps of a task: one for each piece that is sent, one for each entry that may be tried, one for each READY TO
+-- TRANSFER, those of its blocks that are to be programmed, and one for its answer
 abbrev pub steps_of : Limits → (pages wait : ℕ) → Task → ℕ
 steps_of lim pages wait task =
     let work = work_of task.command in
-    (bytes_given lim task.command - task.sent + 4095) / 4096 + tries_by work task.sent task.tried + asks_by work task.asked
+    (bytes_given lim task.command - task.sent + 4095) / 4096 + tries_by work task.sent task.tried
+    + asks_by work task.asked
     + write_steps pages wait (unprogrammed_by work task.programmed) + 1
 
 -- the steps of the collector before the next block is programmed
@@ -60,7 +62,8 @@ unscanned device = device.store.geometry.blocks * device.store.geometry.pages - 
 -- the steps that are left
 abbrev pub steps_left : DeviceState → ℕ
 steps_left device =
-    unscanned device + tasks_left (limits_of device.shape) device.store.geometry.pages (wait_of device.store) device.tasks
+    unscanned device + tasks_left (limits_of device.shape) device.store.geometry.pages (wait_of device.store)
+    device.tasks
 
 -- none of these tasks is a write
 abbrev pub KeepsNoWrite : List Task → Type 0

@@ -14,8 +14,8 @@ use Rattle.hpb_device.specs.State.{DeviceState}
 abbrev pub kept_now : DeviceState → Kept
 kept_now device = kept_of 0 device (map waiting_of device.tasks)
 
--- the chip has the pages that the history says, and each entry listed so far tells whether its place had a page: had says
--- whether the first chip had one, and pages is their number
+-- the chip has the pages that the history says, and each entry listed so far tells whether its place had a page: had
+-- says whether the first chip had one, and pages is their number
 pub record ListingStands (had : Place → Bool) (pages : ℕ) (device : DeviceState) (e : History) : Type 0 where
   pub whole : pages ≡ device.store.geometry.blocks * device.store.geometry.pages
   pub pages_there : HasPages (sizes_of device) had (kept_now device) (current device.store.pages) e

@@ -1,5 +1,6 @@
 -- The lists of entries that a device keeps (this project's own).
-use Rattle.std.specs.Prelude.{◌≡◌, ℕ, ◌<◌, ◌≤◌, Bool, true, false, List, [], ◌∷◌, Option, Some, None, filter, if◌then◌else◌}
+use Rattle.std.specs.Prelude.{◌≡◌, ℕ, ◌<◌, ◌≤◌, Bool, true, false, List, [], ◌∷◌, Option, Some, None, filter}
+use Rattle.std.specs.Prelude.{if◌then◌else◌}
 use Rattle.entry_lists.specs.Lists.{EntryList, list_at, with_list}
 use Rattle.hpb_cdb.specs.declared.cdb.Cdb.{Cdb}
 use Rattle.hpb_cdb.specs.declared.cdb.Cdb.TheVariants.{HpbRead, Prefetch}
@@ -13,9 +14,10 @@ use Rattle.hpb_device.specs.declared.task.Task.{Task}
 use Rattle.hpb_device.specs.Standing.{sizes_of}
 use Rattle.hpb_device.specs.State.{DeviceState}
 
--- after a command of a unit was answered for which these data came: a list that came is kept where the answer is GOOD, and
--- that of an HPB READ is used up
-abbrev pub lists_ended : List (Option EntryList) → (lun : ℕ) → Cdb → (good : Bool) → (held : List ℕ) → List (Option EntryList)
+-- after a command of a unit was answered for which these data came: a list that came is kept where the answer is GOOD,
+-- and that of an HPB READ is used up
+abbrev pub lists_ended : List (Option EntryList) → (lun : ℕ) → Cdb → (good : Bool) → (held : List ℕ)
+    → List (Option EntryList)
 lists_ended lists lun (Prefetch lba id len) good held =
     if good then with_list lists lun id (Some (record { lba = lba; bytes = held })) else lists
 lists_ended lists lun (HpbRead lba entry n id) good held = with_list lists lun id None

@@ -52,7 +52,8 @@ abbrev pub IsProgressWithin : Shape → ℕ → Progress → Type 0
 IsProgressWithin shape luns (Silent (Collected moved) rest) = IsMovedWithin shape luns moved
 IsProgressWithin shape luns _ = ⊤
 
--- a command that succeeded is taken in, and then what is due is told; no other step but one of the collector changes a region
+-- a command that succeeded is taken in, and then what is due is told; no other step but one of the collector changes a
+-- region
 abbrev pub regions_after : Shape → List Machine → Task → Progress → List Machine
 regions_after shape machines task (Ended (Good lun tag residual)) =
     with_regions shape machines task.lun (λ m. after_take (after_good m task.command))

@@ -1,29 +1,30 @@
 -- The UPIUs that a device sends without data of a command.
-use Rattle.std.specs.Prelude.{ℕ, List, []}
+use Rattle.std.specs.Prelude.{List, []}
 use Rattle.hpb_sense.specs.declared.sense.FixedSense.{FixedSense}
 use Rattle.hpb_sense.specs.Sense.{fixed_out}
 use Rattle.upiu_wire.specs.declared.kind.Kind.TheVariants.{NopIn as NopInKind}
 use Rattle.upiu_wire.specs.Upiu.{Upiu}
 use Rattle.upiu_wire.specs.Written.{blank_upiu, reject_upiu, response_upiu}
+use Rattle.flat_unit.specs.Senses.{bad_field, chip_failed, no_number, no_unit, out_of_range, read_failed}
+use Rattle.flat_unit.specs.Senses.{unknown_opcode, write_failed, wrong_data}
 use Rattle.hpb_device.specs.declared.reply.Cause.{Cause}
-use Rattle.hpb_device.specs.declared.reply.Cause.TheVariants.{ReadFailed, WriteFailed, UnknownOpcode, OutOfRange, InvalidField, NoSuchUnit, NoNumber, DataNotAsked, ChipFailed}
+use Rattle.hpb_device.specs.declared.reply.Cause.TheVariants.{ReadFailed, WriteFailed, UnknownOpcode, OutOfRange}
+use Rattle.hpb_device.specs.declared.reply.Cause.TheVariants.{InvalidField, NoSuchUnit, NoNumber, DataNotAsked}
+use Rattle.hpb_device.specs.declared.reply.Cause.TheVariants.{ChipFailed}
 use Rattle.hpb_device.specs.declared.reply.Reply.{Reply}
 use Rattle.hpb_device.specs.declared.reply.Reply.TheVariants.{NopIn, Reject, Good, TaskSetFull, Check}
 
--- sense of a key and an additional sense code
-abbrev pub sense : ℕ → ℕ → FixedSense
-sense key asc = record { key = key; asc = asc; ascq = 0 }
-
+-- the sense that stands for each event
 abbrev pub cause_sense : Cause → FixedSense
-cause_sense ReadFailed = sense 0x3 0x11
-cause_sense WriteFailed = sense 0x3 0x0C
-cause_sense UnknownOpcode = sense 0x5 0x20
-cause_sense OutOfRange = sense 0x5 0x21
-cause_sense InvalidField = sense 0x5 0x24
-cause_sense NoSuchUnit = sense 0x5 0x25
-cause_sense NoNumber = sense 0x7 0x27
-cause_sense DataNotAsked = sense 0xB 0x4B
-cause_sense ChipFailed = sense 0x4 0x44
+cause_sense ReadFailed = read_failed
+cause_sense WriteFailed = write_failed
+cause_sense UnknownOpcode = unknown_opcode
+cause_sense OutOfRange = out_of_range
+cause_sense InvalidField = bad_field
+cause_sense NoSuchUnit = no_unit
+cause_sense NoNumber = no_number
+cause_sense DataNotAsked = wrong_data
+cause_sense ChipFailed = chip_failed
 
 abbrev pub reply_upiu : Reply → Upiu
 reply_upiu (NopIn tag) = blank_upiu NopInKind 0 tag

@@ -48,8 +48,8 @@ first_of device = record {
   free = erased_count device.store.pages;
 }
 
--- the device keeps the tasks of the history, and stands at it; its chip is sound, and its count of erased blocks stops at its last
--- value
+-- the device keeps the tasks of the history, and stands at it; its chip is sound, and its count of erased blocks stops
+-- at its last value
 pub record DeviceStands (device : DeviceState) (first : First) (e : History) : Type 0 where
   pub tasks : List Waiting
   pub erases : ℕ

@@ -18,8 +18,8 @@ use Rattle.hpb_device.specs.declared.task.Task.{Task}
 use Rattle.hpb_device.specs.Limits.{limits_of}
 use Rattle.hpb_device.specs.Task.{WaitsForData, IsQueue, IsWaiting}
 
--- its store, the shape of each logical unit, the regions of each, the lists of entries that it keeps, the tasks in order of
--- acceptance, the data of the first one that came last, and what is counted
+-- its store, the shape of each logical unit, the regions of each, the lists of entries that it keeps, the tasks in
+-- order of acceptance, the data of the first one that came last, and what is counted
 pub record DeviceState : Type 0 where
   pub store : StoreState
   pub shape : Shape
@@ -30,7 +30,8 @@ pub record DeviceState : Type 0 where
   pub counts : Counts
 
 -- what a device keeps true of its fields: while its chip isn't ready, nothing is done yet for any task
-pub record IsDevice (store : StoreState) (shape : Shape) (luns : ℕ) (regions : List Machine) (lists : List (Option EntryList))
+pub record IsDevice (store : StoreState) (shape : Shape) (luns : ℕ) (regions : List Machine)
+    (lists : List (Option EntryList))
     (tasks : List Task) (held : List ℕ) (room : ℕ)
     : Type 0 where
   pub limits : IsWithinLimits shape
@@ -52,8 +53,8 @@ AreAtRest (head ∷ _) = WaitsForData head
 abbrev pub AtRest : DeviceState → Type 0
 AtRest device = AreAtRest device.tasks
 
--- a step does nothing: on a ready chip nothing can go on without the host, on a foreign one no task is kept, and a chip that is
--- scanned has pages to be read
+-- a step does nothing: on a ready chip nothing can go on without the host, on a foreign one no task is kept, and a chip
+-- that is scanned has pages to be read
 abbrev pub IsIdleIn : Phase → List Task → Type 0
 IsIdleIn Scanning tasks = ⊥
 IsIdleIn Ready tasks = AreAtRest tasks

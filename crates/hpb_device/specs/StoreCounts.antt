@@ -26,8 +26,8 @@ abbrev pub names_page : StoreState → Option ℕ → Bool
 names_page old (Some entry) = is_valid_page old.pages entry
 names_page old None = false
 
--- how many calls of the chip a step makes, where the next block has this entry: a block that has no page is looked up without
--- one, and so is an entry tried that names no valid page
+-- how many calls of the chip a step makes, where the next block has this entry: a block that has no page is looked up
+-- without one, and so is an entry tried that names no valid page
 abbrev pub calls_made : StoreState → Option ℕ → Task → Progress → ℕ
 calls_made old entry task (Sends LookedUp rest) = one_if (is_some (current old.pages (next_place task)))
 calls_made old entry task (Silent Missed rest) = one_if (names_page old entry)

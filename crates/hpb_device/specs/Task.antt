@@ -1,10 +1,12 @@
 -- The commands that a device keeps, and how far each has come.
-use Rattle.std.specs.Prelude.{◌≡◌, ◌⊎◌, ℕ, ◌+◌, ◌*◌, ◌/◌, ◌%◌, ◌^◌, ◌<◌, ◌≤◌, true, false, not, ◌&&◌, nat_lt, if◌then◌else◌, List, [], ◌∷◌, length, Option, Some, None}
+use Rattle.std.specs.Prelude.{◌≡◌, ◌⊎◌, ℕ, ◌+◌, ◌*◌, ◌/◌, ◌%◌, ◌^◌, ◌<◌, ◌≤◌, true, false, not, ◌&&◌, nat_lt}
+use Rattle.std.specs.Prelude.{if◌then◌else◌, List, [], ◌∷◌, length, Option, Some, None}
 use Rattle.std.specs.Bool.{OnTrue}
 use Rattle.std.specs.List.{AllByRecursion}
 use Rattle.entry_lists.specs.Lists.{EntryList, entry_for}
 use Rattle.hpb_cdb.specs.declared.cdb.Cdb.{Cdb}
-use Rattle.hpb_cdb.specs.declared.cdb.Cdb.TheVariants.{TestReady, Read, Write, Capacity, Sync, HpbRead, ReadBuffer, Prefetch, InactOne, InactAll}
+use Rattle.hpb_cdb.specs.declared.cdb.Cdb.TheVariants.{TestReady, Read, Write, Capacity, Sync, HpbRead, ReadBuffer}
+use Rattle.hpb_cdb.specs.declared.cdb.Cdb.TheVariants.{Prefetch, InactOne, InactAll}
 use Rattle.hpb_cdb.specs.declared.limits.Limits.{Limits}
 use Rattle.flat_unit.specs.Command.{is_write}
 use Rattle.hpb_device.specs.declared.task.Task.{Task}
@@ -30,7 +32,8 @@ IsServed lim (Sync lba n) = lba + n ≤ lim.units
 IsServed lim (Read lba n) = lba + n ≤ lim.units
 IsServed lim (Write lba n) = lba + n ≤ lim.units
 IsServed lim (HpbRead lba entry n id) = (lba + n ≤ lim.units) × (id ≤ 127)
-IsServed lim (ReadBuffer region sub len) = (sub < lim.per_region / lim.per_sub) × (region * lim.per_region + sub * lim.per_sub < lim.units)
+IsServed lim (ReadBuffer region sub len) = (sub < lim.per_region / lim.per_sub)
+    × (region * lim.per_region + sub * lim.per_sub < lim.units)
 IsServed lim (InactOne region) = region * lim.per_region < lim.units
 IsServed lim InactAll = Unit {0}
 IsServed lim (Prefetch lba id len) =
@@ -101,15 +104,15 @@ pub record IsWaiting (luns : ℕ) (lim : Limits) (task : Task) : Type 0 where
   pub none_programmed : task.programmed ≡ 0
   pub none_tried : task.tried ≡ false
 
--- The tasks of a device, in order of acceptance: nothing is done yet for those behind the first one, and only data of the
--- first one are held.
+-- The tasks of a device, in order of acceptance: nothing is done yet for those behind the first one, and only data of
+-- the first one are held.
 abbrev pub IsQueue : (luns : ℕ) → (lim : Limits) → (held : List ℕ) → List Task → Type 0
 IsQueue luns lim held [] = held ≡ []
 IsQueue luns lim held (head ∷ others) = IsTaskOk luns lim head × HoldsData held head
     × AllByRecursion (IsWaiting luns lim) others
 
--- a step of the first task may have sent nothing since it came first or last sent: it has tried an entry in vain, or it is a
--- write that has asked for data
+-- a step of the first task may have sent nothing since it came first or last sent: it has tried an entry in vain, or it
+-- is a write that has asked for data
 abbrev pub WasSilent : List Task → Type 0
 WasSilent [] = ⊥
 WasSilent (head ∷ _) = (head.tried ≡ true) ⊎ ((is_write head.command ≡ true) × (0 < head.asked))

@@ -5,7 +5,8 @@ use Rattle.hpb_cdb.specs.declared.cdb.Cdb.TheVariants.{Read, Write, Capacity, Hp
 use Rattle.hpb_cdb.specs.declared.limits.Limits.{Limits}
 use Rattle.hpb_cdb.specs.Cdb.{blocks_of}
 use Rattle.hpb_device.specs.declared.task.Work.{Work}
-use Rattle.hpb_device.specs.declared.task.Work.TheVariants.{ReadBlocks, WriteBlocks, TakeList, ListEntries, TellCapacity, AnswerOnly}
+use Rattle.hpb_device.specs.declared.task.Work.TheVariants.{ReadBlocks, WriteBlocks, TakeList, ListEntries}
+use Rattle.hpb_device.specs.declared.task.Work.TheVariants.{TellCapacity, AnswerOnly}
 
 -- the work of a command: HPB READ reads as READ(10) does
 abbrev pub work_of : Cdb → Work

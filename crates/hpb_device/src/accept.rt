@@ -7,7 +7,8 @@ ghost use Rattle.hpb_cdb.specs.Cdb.{IsCdb};
 ghost use Rattle.upiu_wire.specs.Upiu.{upiu_at};
 ghost use Rattle.flat_unit.specs.Reply.{fault_rejection};
 ghost use Rattle.flat_unit.specs.Task.{Task as Waiting};
-ghost use Rattle.hpb_device.specs.Accept.{IsVerdict, IsBegun, IsNextPiece, IsCommandOf, IsJudged, IsDataVerdict, Follows, goes_on};
+ghost use Rattle.hpb_device.specs.Accept.{IsVerdict, IsBegun, IsNextPiece, IsCommandOf, IsJudged, IsDataVerdict};
+ghost use Rattle.hpb_device.specs.Accept.{Follows, goes_on};
 ghost use Rattle.hpb_device.specs.Keeps.{KeepsTasks};
 ghost use Rattle.hpb_device.specs.Reply.{reply_upiu};
 ghost use Rattle.hpb_device.specs.Sizes.{sizes};
@@ -100,7 +101,7 @@ fn judge_command(
 {
     let lun = view.lun();
     let tag = view.tag();
-    let expected = view.first();
+    let expected = view.expected();
     if is_in_use(tasks, tag) {
         return Err(Reply::Reject {
             lun,
@@ -176,7 +177,7 @@ fn goes_on(task: Task, view: &UpiuView<'_>) -> bool
     ensures piece { OnTrue result (IsNextPiece task (upiu_at view.now).segment) }
 {
     let count = view.count();
-    if view.first() != task.come || count as usize != view.segment().len() {
+    if view.offset() != task.come || count as usize != view.segment().len() {
         return false;
     }
     count != 0 && u64::from(task.come) + u64::from(count) <= u64::from(task.asked)

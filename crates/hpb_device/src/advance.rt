@@ -1,8 +1,10 @@
 // One step of the first task.
-ghost use Rattle.std.specs.Prelude.{◌≡◌, ◌+◌, ◌-◌, ◌*◌, ◌^◌, ◌<◌, ◌≤◌, ℕ, false, List, [], length, vec_capacity, Option, Some, None};
+ghost use Rattle.std.specs.Prelude.{◌≡◌, ◌+◌, ◌-◌, ◌*◌, ◌^◌, ◌<◌, ◌≤◌, ℕ, false, List, [], length, vec_capacity};
+ghost use Rattle.std.specs.Prelude.{Option, Some, None};
 ghost use Rattle.hpb_device.specs.Task.{AreProgrammed, IsTaskOk, HoldsData, bytes_given, bytes_taken, to_try};
 ghost use Rattle.flash_store.specs.Store.{IsSame, IsStanding, StoreState, collecting};
-ghost use Rattle.hpb_device.specs.Advance.{ReadsBlocks, ServesEntry, entries_of, first_block, Advances, AllTasks, WhereOver, check, op_of};
+ghost use Rattle.hpb_device.specs.Advance.{ReadsBlocks, ServesEntry, entries_of, first_block, Advances, AllTasks};
+ghost use Rattle.hpb_device.specs.Advance.{WhereOver, check, op_of};
 ghost use Rattle.hpb_device.specs.Left.{steps_of, wait_of};
 ghost use Rattle.hpb_device.specs.StoreCounts.{CountsStep, raised_times};
 
@@ -166,7 +168,8 @@ fn read<F: Flash>(
     ensures advances { (held : List ℕ) → Advances limits store.old store.new held held task result out.new }
     ensures ok { AllTasks (IsTaskOk store.old.luns limits) result }
     ensures held { (held : List ℕ) → HoldsData held task → AllTasks (HoldsData held) result }
-    ensures fewer { (pages wait : ℕ) → AllTasks (λ rest. steps_of limits pages wait rest < steps_of limits pages wait task) result }
+    ensures fewer { (pages wait : ℕ) → AllTasks
+        (λ rest. steps_of limits pages wait rest < steps_of limits pages wait task) result }
     ensures kept { collecting store.new ≡ collecting store.old }
     ensures same { IsSame store.old store.new }
     ensures entries { ServesEntry entry store.old task result }
@@ -195,7 +198,8 @@ fn show<F: Flash>(
     ensures advances { (held : List ℕ) → Advances limits store.old store.new held held task result out.new }
     ensures ok { AllTasks (IsTaskOk store.old.luns limits) result }
     ensures held { (held : List ℕ) → HoldsData held task → AllTasks (HoldsData held) result }
-    ensures fewer { (pages wait : ℕ) → AllTasks (λ rest. steps_of limits pages wait rest < steps_of limits pages wait task) result }
+    ensures fewer { (pages wait : ℕ) → AllTasks
+        (λ rest. steps_of limits pages wait rest < steps_of limits pages wait task) result }
     ensures kept { collecting store.new ≡ collecting store.old }
     ensures same { IsSame store.old store.new }
     ensures entries { (entry : Option ℕ) → to_try entry task ≡ None → ServesEntry entry store.old task result }
@@ -232,7 +236,8 @@ fn try_entry<F: Flash>(
     ensures advances { (held : List ℕ) → Advances limits store.old store.new held held task result out.new }
     ensures ok { AllTasks (IsTaskOk store.old.luns limits) result }
     ensures held { (held : List ℕ) → HoldsData held task → AllTasks (HoldsData held) result }
-    ensures fewer { (pages wait : ℕ) → AllTasks (λ rest. steps_of limits pages wait rest < steps_of limits pages wait task) result }
+    ensures fewer { (pages wait : ℕ) → AllTasks
+        (λ rest. steps_of limits pages wait rest < steps_of limits pages wait task) result }
     ensures kept { collecting store.new ≡ collecting store.old }
     ensures same { IsSame store.old store.new }
     ensures entries { to_try (Some entry) task ≡ Some entry → ServesEntry (Some entry) store.old task result }
@@ -274,7 +279,8 @@ fn list<F: Flash>(
     ensures advances { Advances limits store.old store.new held.old.items held.new.items task result out.new }
     ensures ok { AllTasks (IsTaskOk store.old.luns limits) result }
     ensures held { AllTasks (HoldsData held.new.items) result }
-    ensures fewer { (pages wait : ℕ) → AllTasks (λ rest. steps_of limits pages wait rest < steps_of limits pages wait task) result }
+    ensures fewer { (pages wait : ℕ) → AllTasks
+        (λ rest. steps_of limits pages wait rest < steps_of limits pages wait task) result }
     ensures kept { collecting store.new ≡ collecting store.old }
     ensures same { IsSame store.old store.new }
     ensures over { WhereOver result (held.new.items ≡ held.old.items) }
@@ -390,7 +396,8 @@ fn ask<F: Flash>(
     requires programmed { AreProgrammed task }
     ensures advances { Advances limits store.now store.now held.old.items held.new.items task result out.new }
     ensures ok { AllTasks (IsTaskOk store.now.luns limits) result }
-    ensures fewer { (pages wait : ℕ) → AllTasks (λ rest. steps_of limits pages wait rest < steps_of limits pages wait task) result }
+    ensures fewer { (pages wait : ℕ) → AllTasks
+        (λ rest. steps_of limits pages wait rest < steps_of limits pages wait task) result }
     ensures held { AllTasks (HoldsData held.new.items) result }
     ensures over { WhereOver result (held.new.items ≡ held.old.items) }
     ensures entries { (entry : Option ℕ) → ServesEntry entry store.now task result }
@@ -423,7 +430,8 @@ fn tell(task: Task, limits: Limits, out: &mut UpiuBuf) -> Progress
         → Advances limits store store held held task result out.new }
     ensures ok { (luns : ℕ) → IsTaskOk luns limits task → AllTasks (IsTaskOk luns limits) result }
     ensures held { (held : List ℕ) → HoldsData held task → AllTasks (HoldsData held) result }
-    ensures fewer { (pages wait : ℕ) → AllTasks (λ rest. steps_of limits pages wait rest < steps_of limits pages wait task) result }
+    ensures fewer { (pages wait : ℕ) → AllTasks
+        (λ rest. steps_of limits pages wait rest < steps_of limits pages wait task) result }
     ensures entries { (store : StoreState) (entry : Option ℕ) → ServesEntry entry store task result }
     ensures calls { (store : StoreState) (entry : Option ℕ) → CountsStep store store entry task result }
 {

@@ -1,4 +1,5 @@
-ghost use Rattle.std.specs.Prelude.{◌≡◌, ◌≢◌, ◌^◌, ◌≤◌, ◌↔◌, ◌<◌, ◌*◌, ◌⊎◌, ℕ, Bool, List, [], drop, length, vec_capacity, None, IsTrue, IfOk, IfErr, IfSome, replicate, true, false};
+ghost use Rattle.std.specs.Prelude.{◌≡◌, ◌≢◌, ◌^◌, ◌≤◌, ◌↔◌, ◌<◌, ◌*◌, ◌⊎◌, ℕ, Bool, List, [], drop, length};
+ghost use Rattle.std.specs.Prelude.{vec_capacity, None, IsTrue, IfOk, IfErr, IfSome, replicate, true, false};
 ghost use Rattle.hpb_outside.specs.Faults.{Rose, raised};
 ghost use Rattle.flash_pages.specs.Chip.{Page};
 ghost use Rattle.flash_pages.specs.Place.{Place};
@@ -121,25 +122,37 @@ impl<F: Flash> Model for Device<F> {
 
     ghost Value = { DeviceState };
 
-    ghost view = { λ d. record { store = d.store; shape = d.shape; regions = d.regions.items; lists = d.lists; tasks = d.tasks.items; held = d.held.items; counts = d.counts } };
+    ghost view = { λ d. record {
+      store = d.store;
+      shape = d.shape;
+      regions = d.regions.items;
+      lists = d.lists;
+      tasks = d.tasks.items;
+      held = d.held.items;
+      counts = d.counts;
+    } };
 
-    ghost invariant = { λ d. IsDevice d.store d.shape d.luns d.regions.items d.lists d.tasks.items d.held.items (vec_capacity d.held) };
+    ghost invariant = { λ d. IsDevice d.store d.shape d.luns d.regions.items d.lists d.tasks.items d.held.items
+        (vec_capacity d.held) };
 }
 
 impl<F: Flash> Device<F> {
     ghost use Rattle.hpb_device.specs.Accept.{TakesPiece};
-    ghost use Rattle.hpb_device.specs.Calls.{Collects, GoesOn, LeavesFewer, Receives, Refuses, Scans, Steps, TakesData, reset_of, uncollected_in};
+    ghost use Rattle.hpb_device.specs.Calls.{Collects, GoesOn, LeavesFewer, Receives, Refuses, Scans, Steps, TakesData};
+    ghost use Rattle.hpb_device.specs.Calls.{reset_of, uncollected_in};
     ghost use Rattle.hpb_device.specs.Counted.{CountsStand};
     ghost use Rattle.hpb_device.specs.Entries.{EntriesStand};
     ghost use Rattle.hpb_device.specs.Keeps.{KeepsTasks};
     ghost use Rattle.hpb_device.specs.Lists.{ListsStand};
     ghost use Rattle.hpb_device.specs.Listed.{ListingStands};
     ghost use Rattle.hpb_device.specs.Regions.{HintsStand, KeepsHistory};
-    ghost use Rattle.hpb_device.specs.Standing.{DeviceStands, DeviceStandsForeign, sizes_of, answer_events, first_of, group_of};
+    ghost use Rattle.hpb_device.specs.Standing.{DeviceStands, DeviceStandsForeign, sizes_of, answer_events, first_of};
+    ghost use Rattle.hpb_device.specs.Standing.{group_of};
     ghost use Rattle.hpb_device.specs.State.{IsSound};
     ghost use Rattle.hpb_device.specs.Left.{KeepsNoWrite};
 
-    /// A device of `luns` logical units, each of this shape, over a chip, which it begins to scan. It takes all its memory here.
+    /// A device of `luns` logical units, each of this shape, over a chip, which it begins to scan. It takes all its
+    /// memory here.
     ///
     /// It fails, and hands the chip back, with `Geometry` where a number of the shape is outside its limits or the chip
     /// can't hold the units, and with `Memory` where there isn't enough memory.
@@ -271,8 +284,8 @@ impl<F: Flash> Device<F> {
 
     /// One step. It makes at most one call of the chip and sends at most one UPIU, in `out`.
     ///
-    /// While the chip is scanned a page is read; where the chip fails, the head task ends. On a foreign chip the head task ends. On a
-    /// ready one the head task goes on.
+    /// While the chip is scanned a page is read; where the chip fails, the head task ends. On a foreign chip the head
+    /// task ends. On a ready one the head task goes on.
     pub fn step(&mut self, out: &mut UpiuBuf) -> Stepped
         ensures stands { (first : First) (e : History) → DeviceStands self.old first e
             → DeviceStands self.new first (followed_by e (events_of (group_of result out.new))) }
@@ -288,7 +301,8 @@ impl<F: Flash> Device<F> {
         ensures fetched { (e : History) → KeepsHistory self.old e → ListsStand self.old e
             → ListsStand self.new (followed_by e (events_of (group_of result out.new))) }
         ensures counted { (first : First) (e : History) → DeviceStands self.old first e → EntriesStand self.old e
-            → ListsStand self.old e → CountsStand self.old e → CountsStand self.new (followed_by e (events_of (group_of result out.new))) }
+            → ListsStand self.old e → CountsStand self.old e
+            → CountsStand self.new (followed_by e (events_of (group_of result out.new))) }
         ensures idle { IsTrue result.idle ↔ IsIdle self.old }
         ensures nothing { IsTrue result.idle → result ≡ at_rest }
         ensures unchanged { IsTrue result.idle → self.new ≡ self.old }
@@ -370,8 +384,8 @@ impl<F: Flash> Device<F> {
 
     /// One step of the collector, whether it is needed or not. It makes at most one call of the chip and sends nothing.
     ///
-    /// It is idle while the chip is scanned, on a foreign chip, where no sequence number is left, and where each full erase block
-    /// holds current pages alone.
+    /// It is idle while the chip is scanned, on a foreign chip, where no sequence number is left, and where each full
+    /// erase block holds current pages alone.
     pub fn collect(&mut self) -> Stepped
         ensures stands { (first : First) (e : History) → DeviceStands self.old first e
             → DeviceStands self.new first (followed_by e (events_of (group_of result []))) }
@@ -474,7 +488,8 @@ impl<F: Flash> Device<F> {
     }
 }
 
-/// Leaves the tasks as a step of the first one has them, and answers it where it is over, with this hint where that is GOOD.
+/// Leaves the tasks as a step of the first one has them, and answers it where it is over, with this hint where that is
+/// GOOD.
 fn leave(
     progress: Progress,
     hint: Option<Hint>,
@@ -484,7 +499,8 @@ fn leave(
 ) -> Stepped
     requires some { 0 < length tasks.old.items }
     requires writable { IfSome hint IsHint }
-    ensures leaves { Leaves progress (hint_segment hint) (drop 1 tasks.old.items) tasks.new.items held.new.items result out.new }
+    ensures leaves { Leaves progress (hint_segment hint) (drop 1 tasks.old.items) tasks.new.items held.new.items result
+        out.new }
     ensures stays { Stays progress held.old.items held.new.items out.old out.new }
     ensures room { vec_capacity held.new ≡ vec_capacity held.old }
 {

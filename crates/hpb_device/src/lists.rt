@@ -25,8 +25,8 @@ pub fn next_entry(lists: &EntryLists, task: Task) -> Option<u64>
     }
 }
 
-/// Takes in that a command was answered for which these data came. A list that came is kept where the answer is GOOD, in
-/// place of an older one of its read id, and that of an HPB READ is used up.
+/// Takes in that a command was answered for which these data came. A list that came is kept where the answer is GOOD,
+/// in place of an older one of its read id, and that of an HPB READ is used up.
 fn end_list(lists: &mut EntryLists, task: Task, good: bool, held: &[u8])
     requires task { (luns : ℕ) × (lim : Limits) × IsTaskOk luns lim task × (length lists.old ≡ 127 * luns) }
     requires few { length held.now ≤ bytes_taken task.command }

@@ -6,7 +6,8 @@ ghost use Rattle.region_state.specs.Machine.{Machine, after_change, after_reset,
 ghost use Rattle.region_state.specs.Shape.{IsWithinLimits};
 ghost use Rattle.flat_unit.specs.Hints.{after_good, after_take, hint_of, hint_segment};
 ghost use Rattle.hpb_device.specs.Limits.{limits_of};
-ghost use Rattle.hpb_device.specs.Regions.{AreRegions, IsMovedWithin, IsOfUnits, IsProgressWithin, regions_after, regions_at, regions_moved, segment_told, with_regions};
+ghost use Rattle.hpb_device.specs.Regions.{AreRegions, IsMovedWithin, IsOfUnits, IsProgressWithin, regions_after};
+ghost use Rattle.hpb_device.specs.Regions.{regions_at, regions_moved, segment_told, with_regions};
 ghost use Rattle.hpb_device.specs.Task.{IsServed};
 
 use crate::advance::{Internal, Progress};
@@ -73,7 +74,8 @@ fn take_good(machines: &mut Vec<Regions>, task: Task) -> Option<Hint>
     ensures hint { (shape : Shape)
         → result ≡ hint_of (after_good (regions_at shape machines.old.items task.lun) task.command) task.lun }
     ensures writable { IfSome result IsHint }
-    ensures shapes { map (λ (m : Machine). m.shape) machines.new.items ≡ map (λ (m : Machine). m.shape) machines.old.items }
+    ensures shapes { map (λ (m : Machine). m.shape) machines.new.items
+        ≡ map (λ (m : Machine). m.shape) machines.old.items }
 {
     let regions = &mut machines[usize::from(task.lun)];
     take_in(regions, task.command);
@@ -82,9 +84,11 @@ fn take_good(machines: &mut Vec<Regions>, task: Task) -> Option<Hint>
 
 /// Counts a page that the collector programmed anew as a change of its block.
 pub fn take_moved(machines: &mut Vec<Regions>, moved: Moved)
-    requires { (shape : Shape) × (luns : ℕ) × AreRegions shape luns machines.old.items × IsMovedWithin shape luns moved }
+    requires { (shape : Shape) × (luns : ℕ) × AreRegions shape luns machines.old.items
+        × IsMovedWithin shape luns moved }
     ensures regions { (shape : Shape) → machines.new.items ≡ regions_moved shape machines.old.items moved }
-    ensures shapes { map (λ (m : Machine). m.shape) machines.new.items ≡ map (λ (m : Machine). m.shape) machines.old.items }
+    ensures shapes { map (λ (m : Machine). m.shape) machines.new.items
+        ≡ map (λ (m : Machine). m.shape) machines.old.items }
 {
     if let Moved::Page(lun, lba) = moved {
         machines[usize::from(lun)].changed(lba);
@@ -98,7 +102,8 @@ pub fn take_progress(machines: &mut Vec<Regions>, task: Task, progress: Progress
     ensures regions { (shape : Shape) → machines.new.items ≡ regions_after shape machines.old.items task progress }
     ensures segment { (shape : Shape) → hint_segment result ≡ segment_told shape machines.old.items task progress }
     ensures writable { IfSome result IsHint }
-    ensures shapes { map (λ (m : Machine). m.shape) machines.new.items ≡ map (λ (m : Machine). m.shape) machines.old.items }
+    ensures shapes { map (λ (m : Machine). m.shape) machines.new.items
+        ≡ map (λ (m : Machine). m.shape) machines.old.items }
 {
     match progress {
         Progress::Ended(Reply::Good { .. }) => take_good(machines, task),
@@ -113,7 +118,8 @@ pub fn take_progress(machines: &mut Vec<Regions>, task: Task, progress: Progress
 /// Forgets all regions of each unit, which its host is to be told.
 pub fn reset_all(machines: &mut Vec<Regions>)
     ensures regions { machines.new.items ≡ map after_reset machines.old.items }
-    ensures shapes { map (λ (m : Machine). m.shape) machines.new.items ≡ map (λ (m : Machine). m.shape) machines.old.items }
+    ensures shapes { map (λ (m : Machine). m.shape) machines.new.items
+        ≡ map (λ (m : Machine). m.shape) machines.old.items }
 {
     for regions in machines.iter_mut() {
         regions.reset();

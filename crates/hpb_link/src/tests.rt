@@ -1,145 +1,99 @@
-//! Two ends by worked calls: what comes of each request, and what the device counts.
-use bench::{Bench, Block, Call, Note};
+//! Requests over two ends that are joined, call by call. What drives print is shown by the tests of `trace_replay`, and
+//! by the scripts of the gate.
+use crate::{Link, Submitted};
+use driver_laws::{Answer, Request};
+use flash_pages::{Geometry, MemFlash};
+use flat_unit::Bytes;
+use hpb_device::Device;
+use hpb_driver::Driver;
+use region_state::{Mode, Shape};
 use std::alloc::Global;
-use std::process::Abort;
 use std::test::*;
+use upiu_wire::UpiuBuf;
 
-mod bench;
+/// A chip whose unit has 20 blocks.
+const CHIP: Geometry = Geometry {
+    blocks: 8,
+    pages: 4,
+};
 
-/// A call, and what came of requests until it ended.
-type Row = (Call, &'static [Note]);
+/// Regions of eight blocks, each of four subregions, of which the unit holds one.
+const SHAPE: Shape = Shape {
+    units: 20,
+    region_exp: 6,
+    sub_exp: 4,
+    held: 1,
+    mode: Mode::Device,
+};
 
-/// Two blocks are written, and the first is read five times.
-const FIRST: &[Row] = &[
-    (Call::Write(0, 2, 1), &[]),
-    (Call::Drain, &[Note::Good(1)]),
-    (Call::Read(0, 1), &[]),
-    (Call::Drain, &[Note::One(2, Block::Seed(1))]),
-    (Call::Read(0, 1), &[]),
-    (Call::Drain, &[Note::One(3, Block::Seed(1))]),
-    (Call::Read(0, 1), &[]),
-    (Call::Drain, &[Note::One(4, Block::Seed(1))]),
-    (Call::Read(0, 1), &[]),
-    (Call::Drain, &[Note::One(5, Block::Seed(1))]),
-    (Call::Read(0, 1), &[]),
-    (Call::Drain, &[Note::One(6, Block::Seed(1))]),
-];
-
-/// Nothing is open any more.
-const LAST: &[Row] = &[(Call::Drain, &[])];
-
-/// A block of another region is read until that region is held in the place of the first.
-const ANOTHER: &[Row] = &[
-    (Call::Read(8, 1), &[]),
-    (Call::Drain, &[Note::One(7, Block::Zeros)]),
-    (Call::Read(8, 1), &[]),
-    (Call::Drain, &[Note::One(8, Block::Zeros)]),
-    (Call::Read(8, 1), &[]),
-    (Call::Drain, &[Note::One(9, Block::Zeros)]),
-    (Call::Read(8, 1), &[]),
-    (Call::Drain, &[Note::One(10, Block::Zeros)]),
-    (Call::Read(0, 1), &[]),
-    (Call::Drain, &[Note::One(11, Block::Seed(1))]),
-];
-
-/// The block is written anew.
-const ANEW: &[Row] = &[
-    (Call::Write(0, 1, 2), &[]),
-    (Call::Drain, &[Note::Good(7)]),
-    (Call::Read(0, 1), &[]),
-    (Call::Drain, &[Note::One(8, Block::Seed(2))]),
-];
-
-/// Requests out of range, and a read of two blocks.
-const OUTSIDE: &[Row] = &[
-    (Call::Read(20, 1), &[Note::Range(1)]),
-    (Call::Write(19, 2, 1), &[Note::Range(2)]),
-    (Call::Write(18, 1, 3), &[]),
-    (Call::Read(18, 2), &[]),
-    (Call::Collect(3), &[]),
-    (
-        Call::Drain,
-        &[Note::Good(3), Note::Two(4, Block::Seed(3), Block::Zeros)],
-    ),
-];
-
-/// Both ends are reset while requests are open.
-const RESET: &[Row] = &[
-    (Call::Write(0, 2, 1), &[]),
-    (Call::Drain, &[Note::Good(1)]),
-    (Call::Write(0, 1, 2), &[]),
-    (Call::Read(0, 1), &[]),
-    (Call::Read(1, 1), &[]),
-    (Call::Reset, &[Note::Cut(2), Note::Cut(3), Note::Cut(4)]),
-    (Call::Reset, &[]),
-    (Call::Read(0, 1), &[]),
-    // the chip of 32 pages is scanned anew
-    (Call::Steps(33), &[]),
-    (Call::Steps(1), &[Note::One(5, Block::Seed(1))]),
-    (Call::Read(1, 1), &[]),
-    (Call::Drain, &[Note::One(6, Block::Seed(1))]),
-];
-
-/// Makes the call of each row.
-fn run(rt: &impl Abort, alloc: Global, bench: &mut Bench, rows: &[Row]) -> Result<(), Fail> {
-    for (call, notes) in rows {
-        bench.call(rt, alloc, *call)?;
-        assert_eq!(rt; bench.notes().len(), notes.len(), "{call:?}");
-        for (place, note) in notes.iter().enumerate() {
-            assert_eq!(rt; bench.note(place), Some(*note), "{call:?}");
-        }
-        bench.forget();
+/// Both ends of one unit over an erased chip.
+fn join(alloc: Global) -> Result<Link<MemFlash>, Fail> {
+    if !CHIP.is_within_limits() {
+        return Err(Fail::new("no chip"));
     }
-    Ok(())
+    let flash = MemFlash::new(alloc, CHIP, Vec::new(alloc))?;
+    let Ok(device) = Device::new(alloc, flash, SHAPE, 1) else {
+        return Err(Fail::new("no device"));
+    };
+    let driver = Driver::new(alloc, SHAPE, false, 1)?;
+    let Ok(link) = Link::new(alloc, device, driver) else {
+        return Err(Fail::new("no link"));
+    };
+    Ok(link)
 }
 
-/// Whether the driver is plain, the rows, and the counts of the device.
-type Case = (bool, &'static [&'static [Row]], [u64; 5]);
-
-const CASES: [Case; 4] = [
-    (false, &[FIRST, LAST], [48, 4, 1, 0, 0]),
-    (true, &[FIRST, LAST], [46, 5, 0, 0, 0]),
-    (false, &[FIRST, ANOTHER, LAST], [60, 9, 1, 0, 0]),
-    (false, &[FIRST, ANEW, LAST], [53, 5, 1, 0, 0]),
-];
-
-#[test]
-fn requests_have_these_answers(rt: HostRuntime) -> Result<(), Fail> {
-    for (plain, tables, counts) in CASES {
-        let mut bench = Bench::new(rt.alloc(), plain)?;
-        for rows in tables {
-            run(&rt, rt.alloc(), &mut bench, rows)?;
+/// Makes steps, with what the driver sends before each of them. Adds the number of each request that was answered GOOD,
+/// and how many bytes it got.
+fn go_on(link: &mut Link<MemFlash>, steps: u32, ended: &mut Vec<(u32, usize)>) -> Result<(), Fail> {
+    let mut out = UpiuBuf::new();
+    let mut reply = UpiuBuf::new();
+    for _ in 0..steps {
+        for _ in 0..2 {
+            let _sent = link.send(&mut out, &mut reply);
         }
-        assert_eq!(rt; bench.counts(), counts, "{plain}");
-    }
-    Ok(())
-}
-
-#[test]
-fn numbers_and_resets(rt: HostRuntime) -> Result<(), Fail> {
-    for rows in [OUTSIDE, RESET] {
-        for plain in [false, true] {
-            let mut bench = Bench::new(rt.alloc(), plain)?;
-            run(&rt, rt.alloc(), &mut bench, rows)?;
+        let (_, end) = link.step(&mut out);
+        if let Some(end) = end {
+            let Answer::Good(bytes) = &end.answer else {
+                return Err(Fail::new("not GOOD"));
+            };
+            ended.push((end.ticket.number, bytes.as_slice().len()))?;
         }
     }
     Ok(())
 }
 
-/// No tag is free for the 33rd of forty requests, so those before it end first.
 #[test]
-fn tags_run_out(rt: HostRuntime) -> Result<(), Fail> {
-    let mut bench = Bench::new(rt.alloc(), false)?;
-    for number in 1..41 {
-        bench.call(&rt, rt.alloc(), Call::Read(0, 1))?;
-        let ended = if number <= 32 { 0 } else { 32 };
-        assert_eq!(rt; bench.notes().len(), ended, "{number}");
-    }
-    bench.call(&rt, rt.alloc(), Call::Drain)?;
-    assert_eq!(rt; bench.notes().len(), 40);
-    for place in 0..40 {
-        let ended = Note::One(place + 1, Block::Zeros);
-        assert_eq!(rt; bench.note(place as usize), Some(ended));
-    }
+fn requests_end_or_are_cut(rt: HostRuntime) -> Result<(), Fail> {
+    let mut link = join(rt.alloc())?;
+    let mut ended = Vec::new(rt.alloc());
+    let mut block = Vec::new(rt.alloc());
+    block.resize(4096, 0xA5)?;
+    let bytes = Bytes::new(block);
+    assert!(rt; link.tags_used() < 32 && link.count() < 1_000_000);
+    let write = Request::Write {
+        lun: 0,
+        lba: 7,
+        n: 1,
+        bytes,
+    };
+    assert_eq!(rt; link.submit(write), Submitted::Taken);
+    go_on(&mut link, 40, &mut ended)?;
+    assert!(rt; link.tags_used() < 32 && link.count() < 1_000_000);
+    let read = |lba| Request::Read { lun: 0, lba, n: 2 };
+    assert_eq!(rt; link.submit(read(7)), Submitted::Taken);
+    go_on(&mut link, 4, &mut ended)?;
+    assert_eq!(rt; ended.as_slice(), [(1, 0), (2, 8192)].as_slice());
+    assert!(rt; link.tags_used() < 32 && link.count() < 1_000_000);
+    assert_eq!(rt; link.submit(read(19)), Submitted::Range);
+    assert!(rt; link.tags_used() < 32 && link.count() < 1_000_000);
+    assert_eq!(rt; link.submit(read(0)), Submitted::Taken);
+    link.hold(true);
+    let mut cut = Vec::new(rt.alloc());
+    link.reset(&mut cut);
+    assert_eq!(rt; cut.len(), 1);
+    assert_eq!(rt; cut.first().map(|ticket| ticket.number), Some(4));
+    assert_eq!(rt; (link.tags_used(), link.count()), (0, 4));
+    let counts = link.counts();
+    assert_eq!(rt; (counts.steps, counts.lookups, counts.entries), (38, 2, 0));
     Ok(())
 }

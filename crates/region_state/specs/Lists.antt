@@ -1,5 +1,6 @@
 -- Lists of numbers in order of use, and parts of a list.
-use Rattle.std.specs.Prelude.{ℕ, ◌==◌, Bool, true, not, ◌&&◌, List, [], ◌∷◌, ◌++◌, take, drop, map, filter, if◌then◌else◌, slice_range}
+use Rattle.std.specs.Prelude.{ℕ, ◌==◌, Bool, true, not, ◌&&◌, List, [], ◌∷◌, ◌++◌, take, drop, map, filter}
+use Rattle.std.specs.Prelude.{if◌then◌else◌, slice_range}
 use Rattle.std.specs.List.{list_any}
 
 -- whether the number is in the list

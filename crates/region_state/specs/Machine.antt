@@ -1,5 +1,6 @@
 -- What a device keeps of the regions of a unit, and what each call makes of it. These rules are this project's own.
-use Rattle.std.specs.Prelude.{ℕ, ◌+◌, ◌-◌, ◌*◌, ◌==◌, Bool, true, false, ◌||◌, List, [], ◌∷◌, ◌++◌, length, take, map, fold, replicate, slice_index, slice_index_or, slice_set, nat_lt, if◌then◌else◌}
+use Rattle.std.specs.Prelude.{ℕ, ◌+◌, ◌-◌, ◌*◌, ◌==◌, Bool, true, false, ◌||◌, List, [], ◌∷◌, ◌++◌, length, take, map}
+use Rattle.std.specs.Prelude.{fold, replicate, slice_index, slice_index_or, slice_set, nat_lt, if◌then◌else◌}
 use Rattle.std.specs.List.{range_with_len}
 use Rattle.region_state.specs.declared.shape.Mode.{Mode}
 use Rattle.region_state.specs.declared.shape.Mode.TheVariants.{Device, Host}
@@ -21,7 +22,13 @@ pub record Machine : Type 0 where
 -- at the start the host holds nothing
 abbrev pub start : Shape → Machine
 start shape =
-    record { shape = shape; held = []; subregions = replicate (subregion_count shape) unloaded; gone = []; news = false }
+    record {
+      shape = shape;
+      held = [];
+      subregions = replicate (subregion_count shape) unloaded;
+      gone = [];
+      news = false;
+    }
 
 -- after a read of n blocks: the regions that it touches come to the front in turn, from the lowest number on,
 -- and a read without an entry counts at each subregion that it touches
@@ -29,20 +36,25 @@ unfoldable pub after_read : Machine → ℕ → ℕ → Bool → Machine
 after_read m lba n plain =
     let last = lba + n - 1 in
     if n == 0 then m else record m {
-      held = fold to_front m.held (range_with_len (region_of m.shape lba) (region_of m.shape last + 1 - region_of m.shape lba));
-      subregions = if plain then each_within read_counted (subregion_of m.shape lba) (subregion_of m.shape last + 1) m.subregions else m.subregions;
+      held = fold to_front m.held (range_with_len (region_of m.shape lba)
+          (region_of m.shape last + 1 - region_of m.shape lba));
+      subregions = if plain then each_within read_counted (subregion_of m.shape lba) (subregion_of m.shape last + 1)
+          m.subregions else m.subregions;
     }
 
 -- after a block was changed, which counts at its subregion
 unfoldable pub after_change : Machine → ℕ → Machine
 after_change m lba =
     let number = subregion_of m.shape lba in
-    record m { subregions = slice_set m.subregions number (write_counted (slice_index_or m.subregions number unloaded)) }
+    record m {
+      subregions = slice_set m.subregions number (write_counted (slice_index_or m.subregions number unloaded));
+    }
 
 -- the subregions, those of a region forgotten
 abbrev pub forgotten : Machine → ℕ → List Subregion
 forgotten m region =
-    each_within (λ _. unloaded) (region * per_region m.shape) (region * per_region m.shape + per_region m.shape) m.subregions
+    each_within (λ _. unloaded) (region * per_region m.shape) (region * per_region m.shape + per_region m.shape)
+    m.subregions
 
 -- the last region is dropped, and is to be told
 abbrev pub with_last_dropped : Machine → Machine

@@ -29,7 +29,9 @@ use Rattle.hpb_device.specs.Keeps.{KeepsTasks}
 use Rattle.hpb_device.specs.Standing.{DeviceStands, DeviceStandsForeign, first_of, group_of, sizes_of}
 use Rattle.hpb_device.specs.State.{DeviceState, AreAtRest, AtRest, IsIdleIn, IsSound}
 use Rattle.hpb_device.proofs.Going.{going_counts_step, going_fails, going_group, going_is_silent, going_keeps_no_write, going_rests, going_same, going_scanned}
-use Rattle.hpb_device.proofs.Going.{going_scans, going_serves, going_sizes, going_stays_ready, going_steps_counted, going_tasks, going_unready, going_unscanned, keeps_no_write, no_task_rests, refusing_goes, refusing_sends}
+use Rattle.hpb_device.proofs.Going.{going_scans, going_serves, going_sizes, going_stays_ready, going_steps_counted}
+use Rattle.hpb_device.proofs.Going.{going_tasks, going_unready, going_unscanned, keeps_no_write, no_task_rests}
+use Rattle.hpb_device.proofs.Going.{refusing_goes, refusing_sends}
 use Rattle.hpb_device.proofs.Left.{few_kept}
 use Rattle.hpb_device.specs.Counted.{CountsStand}
 use Rattle.hpb_device.specs.Entries.{EntriesStand}

@@ -90,7 +90,8 @@ pub record IsRefused (shape : Shape) (geometry : Geometry) (chip back : List Pag
 
 -- The events are plain, each GOOD RESPONSE tells what is to be told of the regions, the calls of the chip that failed
 -- are those that its count tells, and the rest is by the chip.
-pub record IsTranscript (shape : Shape) (geometry : Geometry) (faults faults_back : ℕ) (chip back : List Page) (p : Progress)
+pub record IsTranscript (shape : Shape) (geometry : Geometry) (faults faults_back : ℕ) (chip back : List Page)
+    (p : Progress)
     : Type 0 where
   pub plain : IsPlain p.events
   pub hinted : Hinted shape (sizes_on shape geometry) p.events

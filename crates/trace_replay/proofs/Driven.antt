@@ -90,7 +90,8 @@ drive_shows s machine only good better counted left left_now w w_now limit (BadI
 drive_shows s machine only good better counted left left_now w w_now limit (BadCapture offset fault) leads none = absurd none
 
 -- a drive that went as it did is what the program ends with
-program_of : (served : Type 0) (s : Sizes) (machine : Machine) (only : Bool) (good : Drive → Type 0) (counted : Drive → Counts → Type 0) (same : Type 0) (left left_now w w_now : Option (List ℕ)) (limit : ℕ)
+program_of : (served : Type 0) (s : Sizes) (machine : Machine) (only : Bool) (good : Drive → Type 0) (counted : Drive → Counts → Type 0) (same : Type 0) (left left_now w w_now : Option (List ℕ))
+    (limit : ℕ)
     (status : Status) → served → DriveIs s machine only good counted left left_now w w_now limit status
     → DriveProgramIs served s machine only good counted same left left_now w w_now limit status
 program_of served s machine only good counted same left left_now w w_now limit WriteFault is run = inr (is, run)
@@ -98,7 +99,8 @@ program_of served s machine only good counted same left left_now w w_now limit M
 program_of served s machine only good counted same left left_now w w_now limit BadGeometry is run = absurd run
 program_of served s machine only good counted same left left_now w w_now limit _ is run = (is, run)
 
-module _ (served : Type 0) (unit : Shape) (geometry : Geometry) (start : DeviceState) (machine : Machine) (only : Bool) (pages : List Page) (faults : ℕ) (is : served) (fresh : IsFresh start unit geometry pages faults)
+module _ (served : Type 0) (unit : Shape) (geometry : Geometry) (start : DeviceState) (machine : Machine) (only : Bool) (pages : List Page) (faults : ℕ) (is : served)
+    (fresh : IsFresh start unit geometry pages faults)
     (same : Type 0) (left left_now w w_now : Option (List ℕ)) (limit : ℕ) where
   -- the promise of a drive, in terms of the chip
   pub drive_of_chip : (now : LinkState) (back : List Page) (faults_back : ℕ) (status : Status) → back ≡ now.device.store.pages → faults_back ≡ now.device.store.faults
@@ -108,9 +110,11 @@ module _ (served : Type 0) (unit : Shape) (geometry : Geometry) (start : DeviceS
   drive_of_chip now back faults_back status is_back is_faults run =
       let good : Drive → Type 0 = λ d. IsTranscript unit geometry faults faults_back pages back d.progress in
       let there : OnChip = named_on unit geometry pages in
-      let sized : Sizes → OnChip → Drive → Counts → Type 0 = λ s c d. AreCounts s (c.geometry.blocks * c.geometry.pages) c.geometry.pages (erased_count c.pages) (ChipOk c.geometry c.luns c.units c.pages) d.progress in
+      let sized : Sizes → OnChip → Drive → Counts → Type 0 = λ s c d. AreCounts s (c.geometry.blocks * c.geometry.pages) c.geometry.pages (erased_count c.pages)
+      (ChipOk c.geometry c.luns c.units c.pages) d.progress in
       let run0 : DriveIs (sizes_of start) machine only (AtDrive start now) (sized (sizes_of start) there) left left_now w w_now limit status =
-      subst (λ (c : OnChip). DriveIs (sizes_of start) machine only (AtDrive start now) (sized (sizes_of start) c) left left_now w w_now limit status) (start_chip start now.device unit geometry pages faults fresh) run in
+      subst (λ (c : OnChip). DriveIs (sizes_of start) machine only (AtDrive start now) (sized (sizes_of start) c) left left_now w w_now limit status)
+      (start_chip start now.device unit geometry pages faults fresh) run in
       let run1 : DriveIs (sizes_on unit geometry) machine only (AtDrive start now) (sized (sizes_on unit geometry) there) left left_now w w_now limit status =
       subst (λ (s : Sizes). DriveIs s machine only (AtDrive start now) (sized s there) left left_now w w_now limit status) (fresh_sizes start now.device unit geometry pages faults fresh) run0 in
       program_of served (sizes_on unit geometry) machine only good (λ (d : Drive). AreCountsOn unit geometry pages d.progress) same left left_now w w_now limit status is
@@ -118,7 +122,8 @@ module _ (served : Type 0) (unit : Shape) (geometry : Geometry) (start : DeviceS
       (λ d at. left_transcript start now.device unit geometry pages back faults faults_back d.progress fresh is_back is_faults at.standing) run1)
 
 -- a drive that is refused
-pub refused_drive : {A B : Type 0} (served : Type 0) (s : Sizes) (machine : Machine) (only : Bool) (good : Drive → Type 0) (counted : Drive → Counts → Type 0) (same : Type 0) (left left_now w w_now : Option (List ℕ)) (limit : ℕ)
+pub refused_drive : {A B : Type 0} (served : Type 0) (s : Sizes) (machine : Machine) (only : Bool) (good : Drive → Type 0) (counted : Drive → Counts → Type 0) (same : Type 0)
+    (left left_now w w_now : Option (List ℕ)) (limit : ℕ)
     (status : Status) → ¬ served → same → ((status ≡ BadGeometry) × Appends w w_now geometry_text × A) ⊎ ((status ≡ WriteFault) × AppendsFront w w_now geometry_text × B)
     → DriveProgramIs served s machine only good counted same left left_now w w_now limit status
 refused_drive served s machine only good counted same left left_now w w_now limit status differs kept (inl (is, all, _)) =
@@ -128,7 +133,8 @@ refused_drive served s machine only good counted same left left_now w w_now limi
 
 -- what the device says of the shape that was cut, of the shape that is named
 
-pub serves_unit : (chip geometry : Geometry) (unit cut : Shape) → cut ≡ cut_shape unit → geometry ≡ chip → IsWithinLimits cut × CanServe geometry 1 cut.units → IsServedBy chip unit geometry × (cut ≡ unit)
+pub serves_unit : (chip geometry : Geometry) (unit cut : Shape) → cut ≡ cut_shape unit → geometry ≡ chip → IsWithinLimits cut × CanServe geometry 1 cut.units
+    → IsServedBy chip unit geometry × (cut ≡ unit)
 serves_unit chip geometry unit cut cut_is same (limits, serves) =
     let is : cut ≡ unit = cut_is ∙ within_cut unit (subst IsWithinLimits cut_is limits) in
     ((same, subst IsWithinLimits is limits, subst (λ (s : Shape). CanServe geometry 1 s.units) is serves), is)
@@ -139,35 +145,44 @@ serves_no_unit chip geometry unit cut cut_is none (same, limits, serves) =
     none (subst IsWithinLimits is limits, subst (λ (s : Shape). CanServe geometry 1 s.units) is serves)
 
 -- what is left of a source is all that there is to read, where nothing is held
-pub drive_from_source : (s : Sizes) (machine : Machine) (only : Bool) (good : Drive → Type 0) (counted : Drive → Counts → Type 0) (held : List ℕ) (left left_now w w_now : Option (List ℕ)) (limit : ℕ) (status : Status)
+pub drive_from_source : (s : Sizes) (machine : Machine) (only : Bool) (good : Drive → Type 0) (counted : Drive → Counts → Type 0) (held : List ℕ) (left left_now w w_now : Option (List ℕ)) (limit : ℕ)
+    (status : Status)
     → held ≡ [] → DriveIs s machine only good counted (prepend_known held left) left_now w w_now limit status → DriveIs s machine only good counted left left_now w w_now limit status
 drive_from_source s machine only good counted held left left_now w w_now limit status none run =
     subst (λ (l : Option (List ℕ)). DriveIs s machine only good counted l left_now w w_now limit status) (ap (λ (l : List ℕ). prepend_known l left) none ∙ prepend_known-nil left) run
 
 -- a drive of two ends that begin with this device, or no drive for want of memory
-pub drive_of_link : {S : Type 0} (served : Type 0) (unit cut : Shape) (geometry : Geometry) (device : DeviceState) (link : LinkState) (plain only : Bool) (pages back : List Page) (faults faults_back : ℕ) (source source_now : S)
+pub drive_of_link : {S : Type 0} (served : Type 0) (unit cut : Shape) (geometry : Geometry) (device : DeviceState) (link : LinkState) (plain only : Bool) (pages back : List Page)
+    (faults faults_back : ℕ) (source source_now : S)
     (left left_now w w_now : Option (List ℕ)) (limit : ℕ) (status : Status) → served → cut ≡ unit → IsFresh device unit geometry pages faults → link ≡ link_begun device plain cut
     → ((status ≡ Memory) × (source_now ≡ source) × (w_now ≡ w) × (back ≡ link.device.store.pages))
     ⊎ ((now : LinkState) × DriveIs (sizes_of link.device) link.driver only (AtDrive link.device now) (λ (d : Drive). AreCountsOf link.device d.progress) left left_now w w_now limit status
     × (back ≡ now.device.store.pages) × (faults_back ≡ now.device.store.faults))
     → DriveProgramIs served (sizes_on unit geometry) (machine_begun plain unit 1) only (λ (d : Drive). IsTranscript unit geometry faults faults_back pages back d.progress)
     (λ (d : Drive). AreCountsOn unit geometry pages d.progress) ((source_now ≡ source) × (back ≡ pages)) left left_now w w_now limit status
-drive_of_link served unit cut geometry device link plain only pages back faults faults_back source source_now left left_now w w_now limit status is cut_is fresh link_is (inl (starved, unread, unwritten, stays)) =
+drive_of_link served unit cut geometry device link plain only pages back faults faults_back source source_now left left_now w w_now limit status is cut_is fresh link_is
+    (inl (starved, unread, unwritten, stays)) =
     subst (λ (x : Status). DriveProgramIs served (sizes_on unit geometry) (machine_begun plain unit 1) only (λ (d : Drive). IsTranscript unit geometry faults faults_back pages back d.progress)
     (λ (d : Drive). AreCountsOn unit geometry pages d.progress) ((source_now ≡ source) × (back ≡ pages)) left left_now w w_now limit x) (sym starved)
     (is, inl ((unread, stays ∙ (ap (λ (l : LinkState). l.device.store.pages) link_is ∙ fresh.pages_are)), unwritten))
-drive_of_link served unit cut geometry device link plain only pages back faults faults_back source source_now left left_now w w_now limit status is cut_is fresh link_is (inr (now, run, pages_are, faults_are)) =
-    drive_of_chip served unit geometry device (machine_begun plain unit 1) only pages faults is fresh ((source_now ≡ source) × (back ≡ pages)) left left_now w w_now limit now back faults_back status pages_are faults_are
+drive_of_link served unit cut geometry device link plain only pages back faults faults_back source source_now left left_now w w_now limit status is cut_is fresh link_is
+    (inr (now, run, pages_are, faults_are)) =
+    drive_of_chip served unit geometry device (machine_begun plain unit 1) only pages faults is fresh ((source_now ≡ source) × (back ≡ pages)) left left_now w w_now limit now back faults_back status
+    pages_are faults_are
     (subst (λ (l : LinkState). DriveIs (sizes_of l.device) l.driver only (AtDrive l.device now) (λ (d : Drive). AreCountsOf l.device d.progress) left left_now w w_now limit status)
     (link_is ∙ ap (link_begun device plain) cut_is) run)
 
 -- a drive of what the words name
-pub named_drive : (words : List (List ℕ)) (chip : Geometry) (plain only : Bool) (geometry : Geometry) (good : Drive → Type 0) (counted : Drive → Counts → Type 0) (same : Type 0) (left left_now w w_now : Option (List ℕ)) (limit : ℕ)
+pub named_drive : (words : List (List ℕ)) (chip : Geometry) (plain only : Bool) (geometry : Geometry) (good : Drive → Type 0) (counted : Drive → Counts → Type 0) (same : Type 0)
+    (left left_now w w_now : Option (List ℕ)) (limit : ℕ)
     (status : Status) → chip ≡ named_chip words → plain ≡ is_plain words → only ≡ only_answers words
-    → DriveProgramIs (IsServedBy chip (named_unit words) geometry) (sizes_on (named_unit words) geometry) (machine_begun plain (named_unit words) 1) only good counted same left left_now w w_now limit status
-    → DriveProgramIs (IsNamed words geometry) (sizes_on (named_unit words) geometry) (machine_begun (is_plain words) (named_unit words) 1) (only_answers words) good counted same left left_now w w_now limit status
+    → DriveProgramIs (IsServedBy chip (named_unit words) geometry) (sizes_on (named_unit words) geometry) (machine_begun plain (named_unit words) 1) only good counted same left left_now w w_now limit
+    status
+    → DriveProgramIs (IsNamed words geometry) (sizes_on (named_unit words) geometry) (machine_begun (is_plain words) (named_unit words) 1) (only_answers words) good counted same left left_now w w_now
+    limit status
 named_drive words chip plain only geometry good counted same left left_now w w_now limit status chip_is plain_is only_is run =
     let s = sizes_on (named_unit words) geometry in
     subst (λ (o : Bool). DriveProgramIs (IsNamed words geometry) s (machine_begun (is_plain words) (named_unit words) 1) o good counted same left left_now w w_now limit status) only_is
     (subst (λ (p : Bool). DriveProgramIs (IsNamed words geometry) s (machine_begun p (named_unit words) 1) only good counted same left left_now w w_now limit status) plain_is
-    (subst (λ (c : Geometry). DriveProgramIs (IsServedBy c (named_unit words) geometry) s (machine_begun plain (named_unit words) 1) only good counted same left left_now w w_now limit status) chip_is run))
+    (subst (λ (c : Geometry). DriveProgramIs (IsServedBy c (named_unit words) geometry) s (machine_begun plain (named_unit words) 1) only good counted same left left_now w w_now limit status) chip_is
+    run))

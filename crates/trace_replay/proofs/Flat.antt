@@ -33,14 +33,17 @@ has_shape unit geometry limits = record { limits = limits; units = refl; per_reg
 
 pub answers_flat : (chip : Geometry) (unit : Shape) (geometry : Geometry) (plain only : Bool) (faults faults_back : ℕ) (pages back : List Page) (counted : Drive → Counts → Type 0) (same : Type 0)
     (left left_now w w_now : Option (List ℕ)) (limit : ℕ) (status : Status)
-    → DriveProgramIs (IsServedBy chip unit geometry) (sizes_on unit geometry) (machine_begun plain unit 1) only (λ (d : Drive). IsTranscript unit geometry faults faults_back pages back d.progress) counted same
+    → DriveProgramIs (IsServedBy chip unit geometry) (sizes_on unit geometry) (machine_begun plain unit 1) only (λ (d : Drive). IsTranscript unit geometry faults faults_back pages back d.progress)
+    counted same
     left left_now w w_now limit status
     → IsChipOf unit geometry pages → status ≡ Done → AnswersFlat (sizes_on unit geometry) (unit_on unit pages) (machine_begun plain unit 1) only left left_now w w_now
 answers_flat chip unit geometry plain only faults faults_back pages back counted same left left_now w w_now limit status program sound done =
-    whole (subst (λ (x : Status). DriveProgramIs (IsServedBy chip unit geometry) (sizes_on unit geometry) (machine_begun plain unit 1) only (λ (d : Drive). IsTranscript unit geometry faults faults_back pages back d.progress)
+    whole (subst (λ (x : Status). DriveProgramIs (IsServedBy chip unit geometry) (sizes_on unit geometry) (machine_begun plain unit 1) only
+    (λ (d : Drive). IsTranscript unit geometry faults faults_back pages back d.progress)
     counted same left left_now w w_now limit x) done program)
   where
-    whole : DriveProgramIs (IsServedBy chip unit geometry) (sizes_on unit geometry) (machine_begun plain unit 1) only (λ (d : Drive). IsTranscript unit geometry faults faults_back pages back d.progress) counted same
+    whole : DriveProgramIs (IsServedBy chip unit geometry) (sizes_on unit geometry) (machine_begun plain unit 1) only
+        (λ (d : Drive). IsTranscript unit geometry faults faults_back pages back d.progress) counted same
         left left_now w w_now limit Done → AnswersFlat (sizes_on unit geometry) (unit_on unit pages) (machine_begun plain unit 1) only left left_now w w_now
     whole ((is, limits, serves), (mid, n, last, drove, good, (counts, are, printed), few, ends)) =
         let s = sizes_on unit geometry in
@@ -60,5 +63,6 @@ answers_flat chip unit geometry plain only faults faults_back pages back counted
           told = told_drive s (machine_begun plain unit 1) drove.lines last all;
           flat = λ all_good. drive_is_flat s unit plain (unit_on unit pages) drove.lines last (serves_on unit geometry limits) (has_shape unit geometry limits)
               (record { begins = refl; drives = all; sound = own.sound.so_far; good = all_good });
-          good = λ none. good_whole s unit plain (unit_on unit pages) (next_seq pages) drove.lines last (serves_on unit geometry limits) (has_shape unit geometry limits) all own.sound.so_far own.caused none;
+          good = λ none. good_whole s unit plain (unit_on unit pages) (next_seq pages) drove.lines last (serves_on unit geometry limits) (has_shape unit geometry limits) all own.sound.so_far
+              own.caused none;
         }

@@ -29,14 +29,16 @@ worded : (a b : Option (List ℕ)) (text : List ℕ) → Appends a b text → Ap
 worded a b text = subst (Appends a b) (sym (append-nil text))
 
 -- what a run had to write when its sink failed ends with last words
-last_words : (s : Sizes) (counted : Progress → Counts → Type 0) (mid : Option (List ℕ)) (limit n : ℕ) (p last : Progress) (words : List ℕ) → IsCutShort s counted mid limit n p last words → AreLastWords words
+last_words : (s : Sizes) (counted : Progress → Counts → Type 0) (mid : Option (List ℕ)) (limit n : ℕ) (p last : Progress) (words : List ℕ) → IsCutShort s counted mid limit n p last words
+    → AreLastWords words
 last_words s counted mid limit n p last words (inl (_, _, _, is)) = inl is
 last_words s counted mid limit n p last words (inr (inl (_, _, is, _))) = inr (inl (n + 1, is))
 last_words s counted mid limit n p last words (inr (inr (inl (_, _, is, _)))) = inr (inr (inl is))
 last_words s counted mid limit n p last words (inr (inr (inr (_, _, _, (counts, _, is))))) = inr (inr (inr (counts, is)))
 
 -- a fact of all events that a run may have, which are plain
-tells_run : (P : History → Type 0) (s : Sizes) (good : Progress → Type 0) (counted : Progress → Counts → Type 0) (left left_now w w_now : Option (List ℕ)) (limit : ℕ) (status : Status) → ((p : Progress) → good p → P p.events)
+tells_run : (P : History → Type 0) (s : Sizes) (good : Progress → Type 0) (counted : Progress → Counts → Type 0) (left left_now w w_now : Option (List ℕ)) (limit : ℕ) (status : Status)
+    → ((p : Progress) → good p → P p.events)
     → ((p : Progress) → good p → IsPlain p.events)
     → RunIs s good counted left left_now w w_now limit status → Tells status w w_now P
 tells_run P s good counted left left_now w w_now limit Done leads plain (mid, n, ran, few, ends) =
@@ -51,7 +53,14 @@ tells_run P s good counted left left_now w w_now limit (BadLine number) leads pl
   written = ran.shows.1;
 }
 tells_run P s good counted left left_now w w_now limit ReadFault leads plain (mid, n, ran, few, stops) =
-    record { events = ran.moment.events; words = []; plain = plain ran.moment ran.shows.0; last = inl refl; holds = leads ran.moment ran.shows.0; written = worded w w_now (print ran.moment.events) ran.shows.1 }
+    record {
+      events = ran.moment.events;
+      words = [];
+      plain = plain ran.moment ran.shows.0;
+      last = inl refl;
+      holds = leads ran.moment ran.shows.0;
+      written = worded w w_now (print ran.moment.events) ran.shows.1;
+    }
 tells_run P s good counted left left_now w w_now limit LongTrace leads plain (mid, ran, more, ahead) =
     record { events = ran.moment.events; words = long_text; plain = plain ran.moment ran.shows.0; last = inr (inr (inl refl)); holds = leads ran.moment ran.shows.0; written = ran.shows.1 }
 tells_run P s good counted left left_now w w_now limit WriteFault leads plain (mid, n, last, words, ran, well, cut) =
@@ -64,7 +73,8 @@ tells_run P s good counted left left_now w w_now limit (BadImage fault) leads pl
 tells_run P s good counted left left_now w w_now limit (BadCapture offset fault) leads plain none = absurd none
 
 -- the same of a program whose words and chip are as planned
-planned_run : (words : List (List ℕ)) (geometry : Geometry) (good : Progress → Type 0) (counted : Progress → Counts → Type 0) (same : Type 0) (left left_now w w_now : Option (List ℕ)) (limit : ℕ) (status : Status)
+planned_run : (words : List (List ℕ)) (geometry : Geometry) (good : Progress → Type 0) (counted : Progress → Counts → Type 0) (same : Type 0) (left left_now w w_now : Option (List ℕ)) (limit : ℕ)
+    (status : Status)
     → IsPlanned words geometry → ProgramIs words geometry good counted same left left_now w w_now limit status
     → ((status ≡ Memory) × (w_now ≡ w)) ⊎ RunIs (sizes_on (named_unit words) geometry) good counted left left_now w w_now limit status
 planned_run words geometry good counted same left left_now w w_now limit Usage (replay, named) (other, _, _) = absurd (other replay)
@@ -89,17 +99,20 @@ no_text known = appends_nothing known
 none_plain : IsPlain []
 none_plain = record { bytes = tt; short = tt }
 
-tells_program : (P : History → Type 0) (words : List (List ℕ)) (geometry : Geometry) (good : Progress → Type 0) (counted : Progress → Counts → Type 0) (same : Type 0) (left left_now w w_now : Option (List ℕ)) (limit : ℕ) (status : Status)
+tells_program : (P : History → Type 0) (words : List (List ℕ)) (geometry : Geometry) (good : Progress → Type 0) (counted : Progress → Counts → Type 0) (same : Type 0)
+    (left left_now w w_now : Option (List ℕ)) (limit : ℕ) (status : Status)
     → P [] → ((p : Progress) → good p → P p.events) → ((p : Progress) → good p → IsPlain p.events)
     → IsPlanned words geometry → ProgramIs words geometry good counted same left left_now w w_now limit status → Tells status w w_now P
-tells_program P words geometry good counted same left left_now w w_now limit status none leads plain planned program = by_run (planned_run words geometry good counted same left left_now w w_now limit status planned program)
+tells_program P words geometry good counted same left left_now w w_now limit status none leads plain planned program = by_run
+    (planned_run words geometry good counted same left left_now w w_now limit status planned program)
   where
     by_run : ((status ≡ Memory) × (w_now ≡ w)) ⊎ RunIs (sizes_on (named_unit words) geometry) good counted left left_now w w_now limit status → Tells status w w_now P
     by_run (inl (is, nothing)) = subst (λ (s : Status). Tells s w w_now P) (sym is)
         (record { events = []; words = []; plain = none_plain; last = inl refl; holds = none; written = subst (λ (now : Option (List ℕ)). Appends w now (print [] ++ [])) (sym nothing) (no_text w) })
     by_run (inr run) = tells_run P (sizes_on (named_unit words) geometry) good counted left left_now w w_now limit status leads plain run
 
-module _ (words : List (List ℕ)) (geometry : Geometry) (faults faults_back : ℕ) (chip back : List Page) (counted : Progress → Counts → Type 0) (same : Type 0) (left left_now w w_now : Option (List ℕ)) (status : Status) (planned : IsPlanned words geometry)
+module _ (words : List (List ℕ)) (geometry : Geometry) (faults faults_back : ℕ) (chip back : List Page) (counted : Progress → Counts → Type 0) (same : Type 0) (left left_now w w_now : Option (List ℕ))
+    (status : Status) (planned : IsPlanned words geometry)
     (program : ProgramIs words geometry (IsTranscript (named_unit words) geometry faults faults_back chip back) counted same left left_now w w_now 1000000 status) where
   pub tells_allowed : IsChipOf (named_unit words) geometry chip → Tells status w w_now (ReadsAllowed (sizes_on (named_unit words) geometry) (unit_on (named_unit words) chip))
   tells_allowed sound =
@@ -107,16 +120,19 @@ module _ (words : List (List ℕ)) (geometry : Geometry) (faults faults_back : �
 
   pub tells_good : IsChipOf (named_unit words) geometry chip → Tells status w w_now (ReadsEndGood (sizes_on (named_unit words) geometry))
   tells_good sound =
-      tells_program _ words geometry _ counted same left left_now w w_now 1000000 status tt (λ p is. reads_end_well _ _ _ p.events (is.own sound).sound.so_far (is.own sound).caused) (λ p is. is.plain) planned program
+      tells_program _ words geometry _ counted same left left_now w w_now 1000000 status tt (λ p is. reads_end_well _ _ _ p.events (is.own sound).sound.so_far (is.own sound).caused) (λ p is. is.plain)
+      planned program
 
   pub tells_unready : ¬ IsChipOf (named_unit words) geometry chip → Tells status w w_now (SendsUnready (sizes_on (named_unit words) geometry))
   tells_unready unsound =
       tells_program _ words geometry _ counted same left left_now w w_now 1000000 status tt (λ p is. (is.foreign unsound).unready) (λ p is. is.plain) planned program
 
 -- a run that took all lines drains its reads
-pub drains_all : (words : List (List ℕ)) (geometry : Geometry) (good : Progress → Type 0) (counted : Progress → Counts → Type 0) (same : Type 0) (left left_now w w_now : Option (List ℕ)) (limit : ℕ) (status : Status)
+pub drains_all : (words : List (List ℕ)) (geometry : Geometry) (good : Progress → Type 0) (counted : Progress → Counts → Type 0) (same : Type 0) (left left_now w w_now : Option (List ℕ)) (limit : ℕ)
+    (status : Status)
     → ProgramIs words geometry good counted same left left_now w w_now limit status → status ≡ Done → DrainsAll (sizes_on (named_unit words) geometry) left left_now w w_now
-drains_all words geometry good counted same left left_now w w_now limit status program is = by_done (subst (λ (s : Status). ProgramIs words geometry good counted same left left_now w w_now limit s) is program)
+drains_all words geometry good counted same left left_now w w_now limit status program is = by_done
+    (subst (λ (s : Status). ProgramIs words geometry good counted same left left_now w w_now limit s) is program)
   where
     by_done : ProgramIs words geometry good counted same left left_now w w_now limit Done → DrainsAll (sizes_on (named_unit words) geometry) left left_now w w_now
     by_done (_, (mid, n, ran, few, ends)) = record {
@@ -133,7 +149,8 @@ drains_all words geometry good counted same left left_now w w_now limit status p
     }
 
 -- how a told text ends a run without faults
-run_by_text : (s : Sizes) (good : Progress → Type 0) (counted : Progress → Counts → Type 0) (text : List ℕ) (left_now w w_now : Option (List ℕ)) (limit : ℕ) (status : Status) → (status ≡ ReadFault → ⊥) → (status ≡ WriteFault → ⊥)
+run_by_text : (s : Sizes) (good : Progress → Type 0) (counted : Progress → Counts → Type 0) (text : List ℕ) (left_now w w_now : Option (List ℕ)) (limit : ℕ) (status : Status)
+    → (status ≡ ReadFault → ⊥) → (status ≡ WriteFault → ⊥)
     → RunIs s good counted (Some text) left_now w w_now limit status → status ≡ status_of is_trace_line limit text
 run_by_text s good counted text left_now w w_now limit Done read write (mid, n, ran, few, ends) =
     told_done is_trace_line limit n text ran.texts (all_parsed (Some text) ran.texts ran.lines mid ran.taken ran.parsed) ran.counted mid left_now ran.taken few ends
@@ -167,7 +184,8 @@ ends_by_text words geometry good counted same left left_now w w_now source sourc
     by_run : ((status ≡ Memory) × (w_now ≡ w)) ⊎ RunIs (sizes_on (named_unit words) geometry) good counted left left_now w w_now 1000000 status → (status ≡ Memory)
         ⊎ (status ≡ status_of is_trace_line 1000000 text)
     by_run (inl (is, _)) = inl is
-    by_run (inr run) = inr (run_by_text (sizes_on (named_unit words) geometry) good counted text left_now w w_now 1000000 status (no_read_fault source source_now status source_ends read) (no_write_fault sink sink_now status sink_ends write)
+    by_run (inr run) = inr (run_by_text (sizes_on (named_unit words) geometry) good counted text left_now w w_now 1000000 status (no_read_fault source source_now status source_ends read)
+        (no_write_fault sink sink_now status sink_ends write)
         (subst (λ (l : Option (List ℕ)). RunIs (sizes_on (named_unit words) geometry) good counted l left_now w w_now 1000000 status) told run))
 
 show_by_text : (text : List ℕ) (left_now w w_now : Option (List ℕ)) (limit : ℕ) (status : Status) → (status ≡ ReadFault → ⊥) → (status ≡ WriteFault → ⊥)

@@ -32,7 +32,8 @@ pub made_begins : (start now : DeviceState) (before w : Option (List ℕ)) (gath
 made_begins start now before w gathered p at printed = record {
   moment = with_run (sizes_of start) p;
   steps = refl;
-  lacked = all_weaker (LacksEnough now) (LacksBeside 0 now) (with_run (sizes_of start) p).runs (λ run lacks going. let few = lacks.enough going in omega (arith, few)) (run_standing start now p at).lacking;
+  lacked = all_weaker (LacksEnough now) (LacksBeside 0 now) (with_run (sizes_of start) p).runs (λ run lacks going. let few = lacks.enough going in omega (arith, few))
+      (run_standing start now p at).lacking;
   standing = run_standing start now p at;
   printed = printed;
 }

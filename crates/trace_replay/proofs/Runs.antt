@@ -33,7 +33,8 @@ use Rattle.replay_standing.proofs.Beginning.{sound_at, begun_standing}
 abbrev pub StandsAndPrinted : (start now : DeviceState) (before written : Option (List ℕ)) (gathered : List ℕ) → Progress → Type 0
 StandsAndPrinted start now before written gathered p = Standing start now p × HasWrittenUpTo before written (print p.events) gathered
 
-pub ran_begins : (start : DeviceState) (left w : Option (List ℕ)) (gathered : List ℕ) → start.tasks ≡ [] → start.counts ≡ no_counts → HintsStand start [] → ListsStand start [] → CountsStand start [] → start.store.scanned ≡ 0
+pub ran_begins : (start : DeviceState) (left w : Option (List ℕ)) (gathered : List ℕ) → start.tasks ≡ [] → start.counts ≡ no_counts → HintsStand start [] → ListsStand start [] → CountsStand start []
+    → start.store.scanned ≡ 0
     → Rattle.std.proofs.Common.◌≤◌ 1 start.store.geometry.pages → gathered ≡ []
     → Ran (sizes_of start) left left 0 (StandsAndPrinted start start w w gathered)
 unfolding print
@@ -145,5 +146,12 @@ module _ (s : Sizes) (good : Progress → Type 0) (counted : Progress → Counts
 pub ends_unwritten : (s : Sizes) (good : Progress → Type 0) (counted : Progress → Counts → Type 0) (left mid left_now before written : Option (List ℕ)) (limit n : ℕ) (facts : Progress
     → Type 0) (ran : Ran s left mid n facts) (start new : DeviceState)
     → n < limit → (cuts : Cuts (IsCutNext s mid ran.moment) start new before written) → good cuts.moment → RunIs s good counted left left_now before written limit WriteFault
-ends_unwritten s good counted left mid left_now before written limit n facts ran start new few cuts still =
-    (mid, n, cuts.moment, [], ran_with s left mid n facts (λ p. IsCutShort s counted mid limit n p cuts.moment []) ran (inl (cuts.reached, omega arith, λ all. absurd (omega arith), refl)), still, front_wordless before written (print cuts.moment.events) cuts.printed)
+ends_unwritten s good counted left mid left_now before written limit n facts ran start new few cuts still = (
+  mid,
+  n,
+  cuts.moment,
+  [],
+  ran_with s left mid n facts (λ p. IsCutShort s counted mid limit n p cuts.moment []) ran (inl (cuts.reached, omega arith, λ all. absurd (omega arith), refl)),
+  still,
+  front_wordless before written (print cuts.moment.events) cuts.printed,
+)

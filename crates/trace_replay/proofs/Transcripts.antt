@@ -101,7 +101,8 @@ module _ (start device : DeviceState) (shape : Shape) (geometry : Geometry) (pag
         caused = here.caused;
         leaves_sound = subst (λ (c : OnChip). ChipOk c.geometry c.luns c.units c.pages) chip own.stands.sound;
         allowed = λ place inside.
-            subst (λ (c : OnChip). Contains (candidates (sizes_on shape geometry) (unit_on shape pages) (p.events ▹ Reset) place) (block_at (sizes_on shape geometry) (unit_of c.luns c.units c.pages) place)) chip
+            subst (λ (c : OnChip). Contains (candidates (sizes_on shape geometry) (unit_on shape pages) (p.events ▹ Reset) place)
+            (block_at (sizes_on shape geometry) (unit_of c.luns c.units c.pages) place)) chip
             (handed_back (sizes_on shape geometry) first_on kept p.events here place inside);
         told = subst (λ (had : List Page). Told (sizes_on shape geometry) (geometry.blocks * geometry.pages) (has_page had) p.events) fresh.pages_are
             (subst (λ (n : ℕ). Told (sizes_on shape geometry) n (has_page start.store.pages) p.events) (ap (λ (g : Geometry). g.blocks * g.pages) fresh.geometry_is)
@@ -199,10 +200,12 @@ counts_of start now p at = record {
         here.unsound (subst (λ (c : OnChip). ChipOk c.geometry c.luns c.units c.pages) back sound)
 
 -- what is said of the events may be weakened
-pub run_shows : (s : Sizes) (good better : Progress → Type 0) (counted : Progress → Counts → Type 0) (left left_now w w_now : Option (List ℕ)) (limit : ℕ) (status : Status) → ((p : Progress) → good p → better p)
+pub run_shows : (s : Sizes) (good better : Progress → Type 0) (counted : Progress → Counts → Type 0) (left left_now w w_now : Option (List ℕ)) (limit : ℕ) (status : Status)
+    → ((p : Progress) → good p → better p)
     → RunIs s good counted left left_now w w_now limit status → RunIs s better counted left left_now w w_now limit status
 run_shows s good better counted left left_now w w_now limit Done leads (mid, n, ran, few, ends) = (mid, n, ran_with s left mid n _ _ ran (leads _ ran.shows.0, ran.shows.1), few, ends)
-run_shows s good better counted left left_now w w_now limit (BadLine number) leads (mid, behind, n, ran, few, is, bad, ahead) = (mid, behind, n, ran_with s left mid n _ _ ran (leads _ ran.shows.0, ran.shows.1), few, is, bad, ahead)
+run_shows s good better counted left left_now w w_now limit (BadLine number) leads
+    (mid, behind, n, ran, few, is, bad, ahead) = (mid, behind, n, ran_with s left mid n _ _ ran (leads _ ran.shows.0, ran.shows.1), few, is, bad, ahead)
 run_shows s good better counted left left_now w w_now limit ReadFault leads (mid, n, ran, few, stops) = (mid, n, ran_with s left mid n _ _ ran (leads _ ran.shows.0, ran.shows.1), few, stops)
 run_shows s good better counted left left_now w w_now limit LongTrace leads (mid, ran, more, ahead) = (mid, ran_with s left mid limit _ _ ran (leads _ ran.shows.0, ran.shows.1), more, ahead)
 run_shows s good better counted left left_now w w_now limit WriteFault leads (mid, n, last, words, ran, well, cut) = (mid, n, last, words, ran, leads last well, cut)
@@ -224,8 +227,10 @@ ends_in_source (Some text) (x ∷ held) (Some rest) ends = absurd (is_none ends.
     is_none is = cc
 
 -- a replay that ended is what the program ends with
-program_of : (words : List (List ℕ)) (geometry : Geometry) (good : Progress → Type 0) (counted : Progress → Counts → Type 0) (same : Type 0) (left left_now w w_now : Option (List ℕ)) (limit : ℕ) (status : Status)
-    → IsPlanned words geometry → RunIs (sizes_on (named_unit words) geometry) good counted left left_now w w_now limit status → ProgramIs words geometry good counted same left left_now w w_now limit status
+program_of : (words : List (List ℕ)) (geometry : Geometry) (good : Progress → Type 0) (counted : Progress → Counts → Type 0) (same : Type 0) (left left_now w w_now : Option (List ℕ)) (limit : ℕ)
+    (status : Status)
+    → IsPlanned words geometry → RunIs (sizes_on (named_unit words) geometry) good counted left left_now w w_now limit status
+    → ProgramIs words geometry good counted same left left_now w w_now limit status
 program_of words geometry good counted same left left_now w w_now limit Done planned run = (planned, run)
 program_of words geometry good counted same left left_now w w_now limit (BadLine number) planned run = (planned, run)
 program_of words geometry good counted same left left_now w w_now limit ReadFault planned run = (planned, run)
@@ -239,7 +244,8 @@ program_of words geometry good counted same left left_now w w_now limit (BadImag
 program_of words geometry good counted same left left_now w w_now limit (BadCapture offset fault) planned run = absurd run
 
 -- the promise of a run, in terms of the chip
-pub run_of_chip : (words : List (List ℕ)) (geometry : Geometry) (start now : DeviceState) (pages back : List Page) (faults faults_back : ℕ) (same : Type 0) (left left_now w w_now : Option (List ℕ)) (held : List ℕ) (limit : ℕ) (status : Status)
+pub run_of_chip : (words : List (List ℕ)) (geometry : Geometry) (start now : DeviceState) (pages back : List Page) (faults faults_back : ℕ) (same : Type 0) (left left_now w w_now : Option (List ℕ))
+    (held : List ℕ) (limit : ℕ) (status : Status)
     → IsPlanned words geometry → IsFresh start (named_unit words) geometry pages faults → held ≡ [] → back ≡ now.store.pages → faults_back ≡ now.store.faults
     → RunIs (sizes_of start) (Standing start now) (AreCountsOf start) (prepend_known held left) left_now w w_now limit status
     → ProgramIs words geometry (IsTranscript (named_unit words) geometry faults faults_back pages back) (AreCountsOn (named_unit words) geometry pages) same left left_now w w_now limit status
@@ -249,7 +255,8 @@ run_of_chip words geometry start now pages back faults faults_back same left lef
     let unit = named_unit words in
     let counts = AreCountsOn unit geometry pages in
     let there : OnChip = named_on unit geometry pages in
-    let sized : Sizes → (OnChip → Progress → Counts → Type 0) = λ s c. AreCounts s (c.geometry.blocks * c.geometry.pages) c.geometry.pages (erased_count c.pages) (ChipOk c.geometry c.luns c.units c.pages) in
+    let sized : Sizes → (OnChip → Progress → Counts → Type 0) = λ s c. AreCounts s (c.geometry.blocks * c.geometry.pages) c.geometry.pages (erased_count c.pages)
+    (ChipOk c.geometry c.luns c.units c.pages) in
     let run0 : RunIs (sizes_of start) (Standing start now) (sized (sizes_of start) there) left left_now w w_now limit status =
     subst (λ (c : OnChip). RunIs (sizes_of start) (Standing start now) (sized (sizes_of start) c) left left_now w w_now limit status) (start_chip start now unit geometry pages faults fresh)
     (subst (λ (l : Option (List ℕ)). RunIs (sizes_of start) (Standing start now) (AreCountsOf start) l left_now w w_now limit status) from run) in
@@ -316,7 +323,8 @@ other_chip a b differs test some same =
 
 -- a run that is refused
 
-pub refused_geometry : {A B : Type 0} (words : List (List ℕ)) (geometry : Geometry) (good : Progress → Type 0) (counted : Progress → Counts → Type 0) (same : Type 0) (left left_now w w_now : Option (List ℕ)) (limit : ℕ) (status : Status)
+pub refused_geometry : {A B : Type 0} (words : List (List ℕ)) (geometry : Geometry) (good : Progress → Type 0) (counted : Progress → Counts → Type 0) (same : Type 0)
+    (left left_now w w_now : Option (List ℕ)) (limit : ℕ) (status : Status)
     → IsReplay words → ¬ IsNamed words geometry → same → ((status ≡ BadGeometry) × Appends w w_now geometry_text × A) ⊎ ((status ≡ WriteFault) × AppendsFront w w_now geometry_text × B)
     → ProgramIs words geometry good counted same left left_now w w_now limit status
 refused_geometry words geometry good counted same left left_now w w_now limit status replay differs kept (inl (is, all, _)) =

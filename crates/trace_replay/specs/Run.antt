@@ -19,7 +19,8 @@ use Rattle.run_output.specs.Writes.{AppendsFront, HasWrittenUpTo}
 use Rattle.run_output.specs.declared.turn.Turn.{Turn}
 use Rattle.run_output.specs.declared.turn.Turn.TheVariants.{Served, Ended, Bad, Unread, Unwritten}
 use Rattle.run_output.specs.declared.status.Status.{Status}
-use Rattle.run_output.specs.declared.status.Status.TheVariants.{Done, BadLine, ReadFault, WriteFault, LongTrace, Usage, Geometry as BadGeometry, Memory}
+use Rattle.run_output.specs.declared.status.Status.TheVariants.{Done, BadLine, ReadFault, WriteFault, LongTrace, Usage}
+use Rattle.run_output.specs.declared.status.Status.TheVariants.{Geometry as BadGeometry, Memory}
 use Rattle.flash_pages.specs.declared.chip.Geometry.{Geometry}
 use Rattle.replay_standing.specs.Transcript.{sizes_on}
 use Rattle.command_words.specs.Limits.{IsNamed}

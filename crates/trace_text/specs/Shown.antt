@@ -1,16 +1,20 @@
 -- What is shown of a line of a transcript.
-use Rattle.std.specs.Prelude.{ℕ, Bool, true, false, ◌+◌, ◌/◌, ◌^◌, List, [], ◌∷◌, ◌++◌, length, drop, codes, decimal, nat_lt, Option, Some, None, Result, Ok, Err, if◌then◌else◌, option_map}
+use Rattle.std.specs.Prelude.{ℕ, Bool, true, false, ◌+◌, ◌/◌, ◌^◌, List, [], ◌∷◌, ◌++◌, length, drop, codes, decimal}
+use Rattle.std.specs.Prelude.{nat_lt, Option, Some, None, Result, Ok, Err, if◌then◌else◌, option_map}
 use Rattle.std.specs.Option.{option_or}
 use Rattle.std.specs.Int.{w64, to_be_bytes}
 use Rattle.hex.specs.Hex.{encode_lower, decode_of}
 use Rattle.hex.specs.declared.error.FromHexError.{FromHexError}
 use Rattle.upiu_wire.specs.declared.kind.Kind.{Kind}
-use Rattle.upiu_wire.specs.declared.kind.Kind.TheVariants.{NopOut, Command, DataOut, ManageRequest, QueryRequest, NopIn, Response, DataIn, ManageResponse, ReadyToTransfer, QueryResponse, Reject}
+use Rattle.upiu_wire.specs.declared.kind.Kind.TheVariants.{NopOut, Command, DataOut, ManageRequest, QueryRequest, NopIn}
+use Rattle.upiu_wire.specs.declared.kind.Kind.TheVariants.{Response, DataIn, ManageResponse, ReadyToTransfer}
+use Rattle.upiu_wire.specs.declared.kind.Kind.TheVariants.{QueryResponse, Reject}
 use Rattle.upiu_wire.specs.declared.fault.WireFault.{WireFault}
 use Rattle.upiu_wire.specs.Upiu.{Upiu, upiu_at}
 use Rattle.upiu_wire.specs.WireFault.{number_of, wire_fault_of}
 use Rattle.hpb_cdb.specs.declared.cdb.Cdb.{Cdb}
-use Rattle.hpb_cdb.specs.declared.cdb.Cdb.TheVariants.{TestReady, Read, Write, Capacity, Sync, HpbRead, ReadBuffer, Prefetch, InactOne, InactAll}
+use Rattle.hpb_cdb.specs.declared.cdb.Cdb.TheVariants.{TestReady, Read, Write, Capacity, Sync, HpbRead, ReadBuffer}
+use Rattle.hpb_cdb.specs.declared.cdb.Cdb.TheVariants.{Prefetch, InactOne, InactAll}
 use Rattle.hpb_cdb.specs.declared.fault.CdbFault.{CdbFault}
 use Rattle.hpb_cdb.specs.declared.fault.CdbFault.TheVariants.{Opcode, Field, Range}
 use Rattle.hpb_cdb.specs.declared.limits.Limits.{Limits}
@@ -45,10 +49,12 @@ command_text (Write lba n) = named (codes " WRITE lba=") lba ++ named (codes " n
 command_text Capacity = codes " CAPACITY"
 command_text (Sync lba n) = named (codes " SYNC lba=") lba ++ named (codes " n=") n
 command_text (HpbRead lba entry n id) =
-    named (codes " HPB_READ lba=") lba ++ codes " entry=" ++ encode_lower (to_be_bytes w64 entry) ++ named (codes " n=") n ++ named (codes " id=") id
+    named (codes " HPB_READ lba=") lba ++ codes " entry=" ++ encode_lower (to_be_bytes w64 entry)
+    ++ named (codes " n=") n ++ named (codes " id=") id
 command_text (ReadBuffer region sub len) =
     named (codes " READ_BUFFER region=") region ++ named (codes " sub=") sub ++ named (codes " len=") len
-command_text (Prefetch lba id len) = named (codes " PREFETCH lba=") lba ++ named (codes " id=") id ++ named (codes " len=") len
+command_text (Prefetch lba id len) = named (codes " PREFETCH lba=") lba ++ named (codes " id=") id
+    ++ named (codes " len=") len
 command_text (InactOne region) = named (codes " INACT region=") region
 command_text InactAll = codes " INACT_ALL"
 
@@ -92,7 +98,8 @@ sense_of (_ ∷ []) = None
 sense_of (first ∷ second ∷ rest) = long_sense (first ∷ second ∷ rest)
 
 abbrev pub fixed_text : FixedSense → List ℕ
-fixed_text sense = codes " sense=" ++ digit_text sense.key ++ codes "/" ++ byte_text sense.asc ++ codes "/" ++ byte_text sense.ascq
+fixed_text sense = codes " sense=" ++ digit_text sense.key ++ codes "/" ++ byte_text sense.asc ++ codes "/"
+    ++ byte_text sense.ascq
 
 abbrev pub hint_text : Hint → List ℕ
 hint_text hint =
@@ -133,13 +140,15 @@ rest_text DataOut upiu = moved_text upiu
 rest_text DataIn upiu = moved_text upiu
 rest_text ReadyToTransfer upiu = moved_text upiu
 rest_text Response upiu =
-    codes " status=" ++ byte_text upiu.status ++ named (codes " resid=") upiu.first ++ sense_text (sense_of upiu.segment)
+    codes " status=" ++ byte_text upiu.status ++ named (codes " resid=") upiu.first
+    ++ sense_text (sense_of upiu.segment)
 rest_text Reject upiu = named (codes " reason=") (upiu.first / 2 ^ 24)
 rest_text _ upiu = []
 
 -- what a UPIU says
 abbrev pub upiu_text : Upiu → List ℕ
-upiu_text upiu = kind_name upiu.kind ++ named (codes " lun=") upiu.lun ++ named (codes " tag=") upiu.tag ++ rest_text upiu.kind upiu
+upiu_text upiu = kind_name upiu.kind ++ named (codes " lun=") upiu.lun ++ named (codes " tag=") upiu.tag
+    ++ rest_text upiu.kind upiu
 
 -- bytes, by why they are no UPIU
 abbrev pub bytes_text : Option WireFault → List ℕ → List ℕ

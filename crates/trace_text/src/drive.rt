@@ -1,5 +1,6 @@
 ghost use Rattle.std.specs.Prelude.{◌≡◌, ◌∷◌};
-ghost use Rattle.trace_text.specs.Drives.{drive_line, four_words, one_word, said_by, three_words, two_words, unit_of, words_of};
+ghost use Rattle.trace_text.specs.Drives.{drive_line, four_words, one_word, said_by, three_words, two_words, unit_of};
+ghost use Rattle.trace_text.specs.Drives.{words_of};
 ghost use Rattle.trace_text.specs.Words.{words_behind};
 
 use crate::line::{is_blank, parse_number};

@@ -34,8 +34,8 @@ pub fn put_ending(number: u32, ending: Ending, out: &mut [u8]) -> usize
     put(b"\n", end, out)
 }
 
-/// Writes the line of a block that a read got to the front of `out`, and answers how many bytes it has. The number of the
-/// block is wider than an LBA, so that the blocks behind any first one can be counted.
+/// Writes the line of a block that a read got to the front of `out`, and answers how many bytes it has. The number of
+/// the block is wider than an LBA, so that the blocks behind any first one can be counted.
 pub fn put_block(lba: u64, bytes: &[u8], out: &mut [u8]) -> usize
     requires { 2 * length bytes.now + 24 ≤ length out.old }
     ensures length { result ≡ length (block_line lba bytes.now) }

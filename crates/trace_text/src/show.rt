@@ -3,7 +3,10 @@ ghost use Rattle.hex.specs.Hex.{decode_of, encode_lower};
 ghost use Rattle.std.specs.Int.{w64, to_be_bytes};
 ghost use Rattle.upiu_wire.specs.Upiu.{upiu_at};
 ghost use Rattle.trace_text.specs.Written.{Puts};
-ghost use Rattle.trace_text.specs.Shown.{named, byte_text, digit_text, command_text, cdb_text, pair_text, pairs_text, regions_text, sense_of, fixed_text, hint_text, sense_text, kind_name, moved_text, rest_text, upiu_text, shown_upiu, bytes_text, marked_digits, decoded, is_response, shown_line, any_limits};
+ghost use Rattle.trace_text.specs.Shown.{named, byte_text, digit_text, command_text, cdb_text, pair_text, pairs_text};
+ghost use Rattle.trace_text.specs.Shown.{regions_text, sense_of, fixed_text, hint_text, sense_text, kind_name};
+ghost use Rattle.trace_text.specs.Shown.{moved_text, rest_text, upiu_text, shown_upiu, bytes_text, marked_digits};
+ghost use Rattle.trace_text.specs.Shown.{decoded, is_response, shown_line, any_limits};
 ghost use Rattle.upiu_wire.specs.Kind.{kind_of};
 ghost use Rattle.hpb_cdb.specs.Read.{cdb_of};
 ghost use Rattle.upiu_wire.specs.WireFault.{wire_fault_of};
@@ -295,7 +298,7 @@ fn push_moved(view: &UpiuView, text: &mut Text)
     ensures text { text.new.items ≡ text.old.items ++ moved_text (upiu_at view.now) }
     ensures bound { length text.new.items ≤ length text.old.items + 60 }
 {
-    push_named(b" off=", u64::from(view.first()), text);
+    push_named(b" off=", u64::from(view.offset()), text);
     push_named(b" n=", u64::from(view.count()), text);
 }
 
@@ -307,7 +310,7 @@ fn push_response(view: &UpiuView, text: &mut Text)
 {
     push(b" status=", text);
     push_byte(view.status(), text);
-    push_named(b" resid=", u64::from(view.first()), text);
+    push_named(b" resid=", u64::from(view.residual()), text);
     push_sense(view.segment(), text);
 }
 
@@ -319,12 +322,12 @@ fn push_rest(view: &UpiuView, text: &mut Text)
 {
     match view.kind() {
         Kind::Command => {
-            push_named(b" exp=", u64::from(view.first()), text);
+            push_named(b" exp=", u64::from(view.expected()), text);
             push_cdb(view.cdb(), text);
         }
         Kind::DataOut | Kind::DataIn | Kind::ReadyToTransfer => push_moved(view, text),
         Kind::Response => push_response(view, text),
-        Kind::Reject => push_named(b" reason=", u64::from(view.first() >> 24), text),
+        Kind::Reject => push_named(b" reason=", u64::from(view.reason()), text),
         _ => {}
     }
 }
@@ -413,7 +416,8 @@ fn is_response(code: u8) -> bool
 /// RESPONSE its header alone.
 fn read_shown(digits: &[u8], room: &mut [u8]) -> Option<usize>
     requires { length digits.now / 2 ≤ length room.old }
-    ensures shown { option_map (λ count. shown_upiu (take count room.new)) result ≡ option_map shown_upiu (decoded (decode_of digits.now)) }
+    ensures shown { option_map (λ count. shown_upiu (take count room.new)) result
+        ≡ option_map shown_upiu (decoded (decode_of digits.now)) }
     ensures short { IfSome result (λ count. count ≤ length room.old) }
 {
     if digits.len() < HEADER_DIGITS || digits.len() % 2 != 0 {

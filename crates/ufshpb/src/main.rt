@@ -1,5 +1,5 @@
-//! The program `ufshpb`: it replays traces against a UFS device, drives one by its own driver, and shows what transcripts
-//! say.
+//! The program `ufshpb`: it replays traces against a UFS device, drives one by its own driver, and shows what
+//! transcripts say.
 #![tactic(auto)]
 
 use hpb_outside::{StdSink, StdSource};

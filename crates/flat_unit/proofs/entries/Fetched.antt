@@ -52,7 +52,8 @@ without_other lun id other_lun other_id (l ∷ lists) apart = by_list (is_list l
     others : List Fetched
     others = lists_of other_lun other_id lists
 
-    by_list : (b : Bool) → is_list lun id l ≡ b → lists_of other_lun other_id rest ≡ others → lists_of other_lun other_id (cond (not b) (l ∷ rest) rest) ≡ cond (is_list other_lun other_id l) (l ∷ others) others
+    by_list : (b : Bool) → is_list lun id l ≡ b → lists_of other_lun other_id rest ≡ others
+        → lists_of other_lun other_id (cond (not b) (l ∷ rest) rest) ≡ cond (is_list other_lun other_id l) (l ∷ others) others
     by_list true is more =
         more ∙ sym (ap (λ (b : Bool). cond b (l ∷ others) others) (both_lists lun id other_lun other_id l apart is))
     by_list false is more = ap (λ (xs : List Fetched). cond (is_list other_lun other_id l) (l ∷ xs) xs) more

@@ -1,5 +1,7 @@
 -- The numbers of an event have room: each byte that a device writes is a byte, where those of the host and of the chip are.
-use Rattle.std.proofs.Common.{◌≡◌, ℕ, zero, suc, ◌+◌, ◌-◌, ◌<◌, ◌≤◌, Bool, true, false, not, ◌&&◌, List, [], ◌∷◌, ◌++◌, length, replicate, Option, Some, None, Result, Ok, Err, refl, subst, arith, nat_lt, nat_le, ◌==◌}
+use Rattle.std.proofs.Common.{◌≡◌, ℕ, zero, suc, ◌+◌, ◌-◌, ◌<◌, ◌≤◌, Bool, true, false, not, ◌&&◌, List, [], ◌∷◌, ◌++◌}
+use Rattle.std.proofs.Common.{length, replicate, Option, Some, None, Result, Ok, Err, refl, subst, arith, nat_lt}
+use Rattle.std.proofs.Common.{nat_le, ◌==◌}
 use Rattle.std.specs.Prelude.{filter, map, if◌then◌else◌}
 use Rattle.std.proofs.lemmas.List.{length-append, length-replicate}
 use Rattle.std.specs.Int.{byte_at, next_multiple_of}
@@ -8,6 +10,7 @@ use Rattle.byteorder.specs.Endian.{big_bytes}
 use Rattle.hex.specs.Hex.{IsBytes}
 use Rattle.hpb_cdb.specs.declared.cdb.Cdb.{Cdb}
 use Rattle.hpb_cdb.specs.declared.fault.CdbFault.{CdbFault}
+use Rattle.hpb_cdb.proofs.Branches.{either}
 use Rattle.hpb_cdb.specs.declared.fault.CdbFault.TheVariants.{Opcode, Field, Range}
 use Rattle.hpb_sense.specs.declared.sense.FixedSense.{FixedSense}
 use Rattle.hpb_sense.specs.Sense.{fixed_out}
@@ -26,7 +29,9 @@ use Rattle.flat_unit.specs.Laws.{AreShort, HasRoom, HaveRoom, IsShort}
 use Rattle.flat_unit.specs.Manage.{goes, manage_events, manage_reply}
 use Rattle.flat_unit.specs.Query.{first_code, idn_of, is_change, on_after_query, query_code, query_effect, query_events, query_reply, query_value, refusals, reset_flag}
 use Rattle.flat_unit.specs.Queue.{after_kept, after_reply, after_sent, change_head, on_after, task_of, tasks_after, tasks_changed, with_asked, with_command, with_data, with_sent}
-use Rattle.flat_unit.specs.Reply.{check, command_refusal, data_refusal, effects_by_fault, effects_by_kind, effects_of, fault_rejection, has_tag, is_next_piece, not_served, refusal_of_cdb, reply_by_fault, reply_by_kind, reply_of, waits_for_data}
+use Rattle.flat_unit.specs.Reply.{check, command_refusal, data_refusal, effects_by_fault, effects_by_kind, effects_of}
+use Rattle.flat_unit.specs.Reply.{fault_rejection, has_tag, is_next_piece, not_served, refusal_of_cdb, reply_by_fault}
+use Rattle.flat_unit.specs.Reply.{reply_by_kind, reply_of, waits_for_data}
 use Rattle.flat_unit.specs.Sends.{Answer, Data, Ask, Good, Check, upiu_of}
 use Rattle.flat_unit.specs.Senses.{sense, sense_of_fault}
 use Rattle.flat_unit.specs.Sizes.{Sizes}
@@ -257,10 +262,6 @@ none_written = record { written = λ r is. absurd (no_reply r is) }
     no_reply : (r : Upiu) → None ≡ Some r → ⊥
     no_reply r is = cc
 
-either : (b : Bool) {x y : Option Upiu} → Written x → Written y → Written (if b then x else y)
-either true f g = f
-either false f g = g
-
 -- the fields of a UPIU that a reply takes over
 record Told (v : Upiu) : Type 0 where
   lun : v.lun < 256
@@ -287,22 +288,25 @@ of_fault Range = small_sense 0x5 0x21 (omega arith) (omega arith)
 
 command_written : (s : Sizes) (on : Bool) (tasks : List Task) (v : Upiu) → Told v → Written (command_refusal s on tasks v)
 command_written s on tasks v told =
-    either (list_any (has_tag v.tag) tasks) (rejects v 8 told)
-    (either (nat_le s.luns v.lun) (sense_fits v v.first (sense 0x5 0x25) told (small_sense 0x5 0x25 (omega arith) (omega arith)))
-    (either (nat_le s.room (length tasks)) (only_written _ (response_bytes v.lun v.tag 0x28 v.first [] told.lun told.tag (omega arith) (bytes-nil, omega arith)))
-    (by_cdb (command_of s v.cdb))))
+    either Written (list_any (has_tag v.tag) tasks) (λ _. rejects v 8 told) (λ _.
+    either Written (nat_le s.luns v.lun) (λ _. sense_fits v v.first (sense 0x5 0x25) told (small_sense 0x5 0x25 (omega arith) (omega arith))) (λ _.
+    either Written (nat_le s.room (length tasks))
+    (λ _. only_written _ (response_bytes v.lun v.tag 0x28 v.first [] told.lun told.tag (omega arith) (bytes-nil, omega arith))) (λ _.
+    by_cdb (command_of s v.cdb))))
   where
     by_cdb : (r : Result Cdb CdbFault) → Written (refusal_of_cdb s on v r)
     by_cdb (Err fault) = sense_fits v v.first (sense_of_fault fault) told (of_fault fault)
     by_cdb (Ok command) =
-        either (is_hpb command && not on) (sense_fits v v.first (sense 0x5 0x20) told (small_sense 0x5 0x20 (omega arith) (omega arith)))
-        (either (nat_lt v.first (needed s command)) (sense_fits v v.first (sense 0x5 0x24) told (small_sense 0x5 0x24 (omega arith) (omega arith))) none_written)
+        either Written (is_hpb command && not on) (λ _. sense_fits v v.first (sense 0x5 0x20) told (small_sense 0x5 0x20 (omega arith) (omega arith))) (λ _.
+        either Written (nat_lt v.first (needed s command))
+        (λ _. sense_fits v v.first (sense 0x5 0x24) told (small_sense 0x5 0x24 (omega arith) (omega arith))) (λ _. none_written))
 
 data_written : (tasks : List Task) (v : Upiu) → Told v → Written (data_refusal tasks v)
 data_written [] v told = rejects v 9 told
 data_written (task ∷ others) v told =
-    either (not (waits_for_data task && ((task.lun == v.lun) && (task.tag == v.tag)))) (rejects v 9 told)
-    (either (is_next_piece task v) none_written (sense_fits v (task.expected - length task.come) (sense 0xB 0x4B) told (small_sense 0xB 0x4B (omega arith) (omega arith))))
+    either Written (not (waits_for_data task && ((task.lun == v.lun) && (task.tag == v.tag)))) (λ _. rejects v 9 told) (λ _.
+    either Written (is_next_piece task v) (λ _. none_written)
+    (λ _. sense_fits v (task.expected - length task.come) (sense 0xB 0x4B) told (small_sense 0xB 0x4B (omega arith) (omega arith))))
 
 first_code_fits : (tests : List (Bool × ℕ)) → AllByRecursion (λ (t : Bool × ℕ). t.1 < 256) tests → first_code tests < 256
 first_code_fits [] all = omega arith

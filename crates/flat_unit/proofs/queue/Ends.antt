@@ -1,10 +1,13 @@
 -- What a UPIU of the device ends: of a step the first task at most, and of a reply no task GOOD.
-use Rattle.std.proofs.Common.{◌≡◌, ◌⊎◌, ⊎_elim, inl, inr, not, Result, Ok, Err, ℕ, Bool, true, false, cond, ◌&&◌, List, [], ◌∷◌, length, Option, Some, None, refl, sym, ◌∙◌, ap, subst, filter, drop, nat_le, nat_lt, ◌==◌}
+use Rattle.std.proofs.Common.{◌≡◌, ◌⊎◌, ⊎_elim, inl, inr, not, Result, Ok, Err, ℕ, Bool, true, false, cond, ◌&&◌, List}
+use Rattle.std.proofs.Common.{[], ◌∷◌, length, Option, Some, None, refl, sym, ◌∙◌, ap, subst, filter, drop, nat_le}
+use Rattle.std.proofs.Common.{nat_lt, ◌==◌}
 use Rattle.std.specs.Prelude.{map, unwrap_or, if◌then◌else◌}
 use Rattle.std.specs.List.{AllByRecursion, list_any}
 use Rattle.std.proofs.lemmas.Bool.{eqb-true, false≢true}
 use Rattle.hpb_cdb.specs.declared.cdb.Cdb.{Cdb}
 use Rattle.hpb_cdb.specs.declared.fault.CdbFault.{CdbFault}
+use Rattle.hpb_cdb.proofs.Branches.{either}
 use Rattle.upiu_wire.specs.declared.kind.Kind.{Kind}
 use Rattle.upiu_wire.specs.declared.kind.Kind.TheVariants.{NopOut, Command, DataOut, ManageRequest, QueryRequest, Response, DataIn, ReadyToTransfer}
 use Rattle.upiu_wire.specs.Upiu.{Upiu, upiu_at, upiu_out}
@@ -20,7 +23,9 @@ use Rattle.flat_unit.specs.Laws.{FirstAlone, IsFirst, MovedAll}
 use Rattle.flat_unit.specs.Queue.{after_reply, on_after, tasks_after}
 use Rattle.flat_unit.specs.Manage.{goes, manage_reply, manage_events}
 use Rattle.flat_unit.specs.Query.{query_code, query_reply, query_events, query_effect, is_change, idn_of, reset_flag, on_after_query}
-use Rattle.flat_unit.specs.Reply.{has_tag, waits_for_data, is_next_piece, not_served, command_refusal, refusal_of_cdb, data_refusal, reply_by_kind, reply_by_fault, fault_rejection, reply_of, effects_of, effects_by_fault, effects_by_kind}
+use Rattle.flat_unit.specs.Reply.{has_tag, waits_for_data, is_next_piece, not_served, command_refusal, refusal_of_cdb}
+use Rattle.flat_unit.specs.Reply.{data_refusal, reply_by_kind, reply_by_fault, fault_rejection, reply_of, effects_of}
+use Rattle.flat_unit.specs.Reply.{effects_by_fault, effects_by_kind}
 use Rattle.flat_unit.specs.Sends.{Answer, Data, Ask, Good, Check, Allows, MaySend, upiu_of}
 use Rattle.flat_unit.specs.Sizes.{Sizes}
 use Rattle.flat_unit.specs.Sound.{Comes, MayCome, SoundSoFar, owed, reply_events}
@@ -123,28 +128,24 @@ none_ends tasks = record { ends = λ r is. absurd (no_reply r is) }
     no_reply : (r : Upiu) → None ≡ Some r → ⊥
     no_reply r is = cc
 
-either : (tasks : List Task) (b : Bool) {x y : Option Upiu} → (b ≡ true → Ends tasks x) → (b ≡ false → Ends tasks y) → Ends tasks (if b then x else y)
-either tasks true f g = f refl
-either tasks false f g = g refl
-
 command_ends : (s : Sizes) (on : Bool) (tasks : List Task) (v : Upiu) → Ends tasks (command_refusal s on tasks v)
 command_ends s on tasks v =
-    either tasks (list_any (has_tag v.tag) tasks) (λ _. only_ends tasks _ tt tt) (λ none.
-    either tasks (nat_le s.luns v.lun) (λ _. only_ends tasks _ (badly_none tasks v.tag none) refl) (λ _.
-    either tasks (nat_le s.room (length tasks)) (λ _. only_ends tasks _ (badly_none tasks v.tag none) refl) (λ _.
+    either (Ends tasks) (list_any (has_tag v.tag) tasks) (λ _. only_ends tasks _ tt tt) (λ none.
+    either (Ends tasks) (nat_le s.luns v.lun) (λ _. only_ends tasks _ (badly_none tasks v.tag none) refl) (λ _.
+    either (Ends tasks) (nat_le s.room (length tasks)) (λ _. only_ends tasks _ (badly_none tasks v.tag none) refl) (λ _.
     by_cdb (command_of s v.cdb) none)))
   where
     by_cdb : (r : Result Cdb CdbFault) → list_any (has_tag v.tag) tasks ≡ false → Ends tasks (refusal_of_cdb s on v r)
     by_cdb (Err fault) none = only_ends tasks _ (badly_none tasks v.tag none) refl
     by_cdb (Ok command) none =
-        either tasks (is_hpb command && not on) (λ _. only_ends tasks _ (badly_none tasks v.tag none) refl) (λ _.
-        either tasks (nat_lt v.first (needed s command)) (λ _. only_ends tasks _ (badly_none tasks v.tag none) refl) (λ _. none_ends tasks))
+        either (Ends tasks) (is_hpb command && not on) (λ _. only_ends tasks _ (badly_none tasks v.tag none) refl) (λ _.
+        either (Ends tasks) (nat_lt v.first (needed s command)) (λ _. only_ends tasks _ (badly_none tasks v.tag none) refl) (λ _. none_ends tasks))
 
 data_ends : (s : Sizes) (tasks : List Task) (v : Upiu) → IsQueue s tasks → Ends tasks (data_refusal tasks v)
 data_ends s [] v queue = only_ends [] _ tt tt
 data_ends s (task ∷ others) v queue =
-    either (task ∷ others) (not (waits_for_data task && ((task.lun == v.lun) && (task.tag == v.tag)))) (λ _. only_ends (task ∷ others) _ tt tt) (λ mine.
-    either (task ∷ others) (is_next_piece task v) (λ _. none_ends (task ∷ others)) (λ _.
+    either (Ends (task ∷ others)) (not (waits_for_data task && ((task.lun == v.lun) && (task.tag == v.tag)))) (λ _. only_ends (task ∷ others) _ tt tt) (λ mine.
+    either (Ends (task ∷ others)) (is_next_piece task v) (λ _. none_ends (task ∷ others)) (λ _.
     only_ends (task ∷ others) _ (badly_first task others v.tag (sym (eqb-true task.tag v.tag (third _ _ _ mine))) queue.apart.0 (first _ _ mine)) refl))
   where
     first : (a b : Bool) → not (a && b) ≡ false → a ≡ true

@@ -1,5 +1,7 @@
 -- What holds of the tasks after every history.
-use Rattle.std.proofs.Common.{◌≡◌, ℕ, ◌+◌, ◌≤◌, ◌<◌, Bool, true, false, cond, not, ◌&&◌, ◌||◌, List, [], ◌∷◌, ◌++◌, length, filter, Option, Some, None, Result, Ok, Err, refl, sym, ◌∙◌, ap, subst, arith, eqb, eq-eqb, nat_le, nat_lt, if◌then◌else◌}
+use Rattle.std.proofs.Common.{◌≡◌, ℕ, ◌+◌, ◌≤◌, ◌<◌, Bool, true, false, cond, not, ◌&&◌, ◌||◌, List, [], ◌∷◌, ◌++◌}
+use Rattle.std.proofs.Common.{length, filter, Option, Some, None, Result, Ok, Err, refl, sym, ◌∙◌, ap, subst, arith}
+use Rattle.std.proofs.Common.{eqb, eq-eqb, nat_le, nat_lt, if◌then◌else◌}
 use Rattle.std.specs.List.{AllByRecursion, list_any}
 use Rattle.std.proofs.lemmas.Bool.Decides.{nat_tests}
 use Rattle.hpb_cdb.specs.declared.cdb.Cdb.{Cdb}
@@ -7,6 +9,7 @@ use Rattle.hpb_cdb.specs.declared.fault.CdbFault.{CdbFault}
 use Rattle.hpb_cdb.specs.declared.fault.CdbFault.TheVariants.{Opcode}
 use Rattle.hpb_cdb.specs.Cdb.{IsCdb}
 use Rattle.hpb_cdb.specs.Read.{cdb_of}
+use Rattle.hpb_cdb.proofs.Branches.{either}
 use Rattle.hpb_cdb.proofs.Reading.{is_cdb-cdb_of}
 use Rattle.upiu_wire.specs.declared.kind.Kind.{Kind}
 use Rattle.upiu_wire.specs.declared.kind.Kind.TheVariants.{Command, DataOut, Response, DataIn, ReadyToTransfer}
@@ -17,7 +20,9 @@ use Rattle.flat_unit.specs.declared.event.Event.{Event}
 use Rattle.flat_unit.specs.declared.event.Event.TheVariants.{Host, Device, Reset, Gone}
 use Rattle.flat_unit.specs.Command.{command_of, is_hpb, needed}
 use Rattle.flat_unit.specs.History.{History}
-use Rattle.flat_unit.specs.Queue.{after_kept, after_reply, after_sent, change_head, change_head_with_tag, on_after, task_of, tasks_after, tasks_changed, with_asked, with_command, with_data, with_sent, without_tag}
+use Rattle.flat_unit.specs.Queue.{after_kept, after_reply, after_sent, change_head, change_head_with_tag, on_after}
+use Rattle.flat_unit.specs.Queue.{task_of, tasks_after, tasks_changed, with_asked, with_command, with_data, with_sent}
+use Rattle.flat_unit.specs.Queue.{without_tag}
 use Rattle.flat_unit.specs.Reply.{has_tag, reply_of, reply_by_kind, reply_by_fault, command_refusal, refusal_of_cdb}
 use Rattle.flat_unit.specs.Sizes.{Sizes, limits_of}
 use Rattle.flat_unit.specs.Task.{Task}
@@ -153,10 +158,6 @@ pub record IsAccepted (s : Sizes) (tasks : List Task) (v : Upiu) (command : Cdb)
   pub room : length tasks < s.room
   pub reads : command_of s v.cdb ≡ Ok command
   pub expected : needed s command ≤ v.first
-
-either : (P : Option Upiu → Type 0) (b : Bool) {x y : Option Upiu} → (b ≡ true → P x) → (b ≡ false → P y) → P (if b then x else y)
-either P true f g = f refl
-either P false f g = g refl
 
 -- a command without a refusal is accepted
 abbrev Accepts : Sizes → List Task → Upiu → Option Upiu → Type 0

@@ -4,6 +4,7 @@ use Rattle.std.specs.Prelude.{if◌then◌else◌}
 use Rattle.std.specs.List.{list_any}
 use Rattle.hpb_cdb.specs.declared.cdb.Cdb.{Cdb}
 use Rattle.hpb_cdb.specs.declared.fault.CdbFault.{CdbFault}
+use Rattle.hpb_cdb.proofs.Branches.{either}
 use Rattle.upiu_wire.specs.declared.fault.WireFault.{WireFault}
 use Rattle.upiu_wire.specs.declared.kind.Kind.{Kind}
 use Rattle.upiu_wire.specs.declared.kind.Kind.TheVariants.{NopOut, Command, DataOut, ManageRequest, QueryRequest, Reject}
@@ -35,25 +36,23 @@ none_late = record { late = λ r is. absurd (no_reply r is) }
     no_reply : (r : Upiu) → None ≡ Some r → ⊥
     no_reply r is = cc
 
-either : (b : Bool) {x y : Option Upiu} → Late x → Late y → Late (if b then x else y)
-either true f g = f
-either false f g = g
-
 command_late : (s : Sizes) (on : Bool) (tasks : List Task) (v : Upiu) → Late (command_refusal s on tasks v)
 command_late s on tasks v =
-    either (list_any (has_tag v.tag) tasks) (only_late _ (omega arith))
-    (either (nat_le s.luns v.lun) (only_late _ tt)
-    (either (nat_le s.room (length tasks)) (only_late _ tt) (by_cdb (command_of s v.cdb))))
+    either Late (list_any (has_tag v.tag) tasks) (λ _. only_late _ (omega arith)) (λ _.
+    either Late (nat_le s.luns v.lun) (λ _. only_late _ tt) (λ _.
+    either Late (nat_le s.room (length tasks)) (λ _. only_late _ tt) (λ _. by_cdb (command_of s v.cdb))))
   where
     by_cdb : (r : Result Cdb CdbFault) → Late (refusal_of_cdb s on v r)
     by_cdb (Err fault) = only_late _ tt
-    by_cdb (Ok command) = either (is_hpb command && not on) (only_late _ tt) (either (nat_lt v.first (needed s command)) (only_late _ tt) none_late)
+    by_cdb (Ok command) =
+        either Late (is_hpb command && not on) (λ _. only_late _ tt) (λ _.
+        either Late (nat_lt v.first (needed s command)) (λ _. only_late _ tt) (λ _. none_late))
 
 data_late : (tasks : List Task) (v : Upiu) → Late (data_refusal tasks v)
 data_late [] v = only_late _ (omega arith)
 data_late (task ∷ _) v =
-    either (not (waits_for_data task && ((task.lun == v.lun) && (task.tag == v.tag)))) (only_late _ (omega arith))
-    (either (is_next_piece task v) none_late (only_late _ tt))
+    either Late (not (waits_for_data task && ((task.lun == v.lun) && (task.tag == v.tag)))) (λ _. only_late _ (omega arith)) (λ _.
+    either Late (is_next_piece task v) (λ _. none_late) (λ _. only_late _ tt))
 
 kind_late : (kind : Kind) (s : Sizes) (on : Bool) (tasks : List Task) (v : Upiu) → Late (reply_by_kind kind s on tasks v)
 kind_late NopOut s on tasks v = only_late _ tt

@@ -1,5 +1,7 @@
 -- A device that stands at a history stands at it with the events of one more call.
-use Rattle.std.proofs.Common.{◌≡◌, ℕ, ◌+◌, ◌-◌, ◌*◌, ◌≤◌, ◌<◌, ◌^◌, Bool, true, false, ◌&&◌, List, [], ◌∷◌, ◌++◌, length, Option, Some, None, Ok, refl, sym, ◌∙◌, ap, subst, arith, drop, nat_le, nat_lt, ◌==◌, slice_range, inl, inr, length-append}
+use Rattle.std.proofs.Common.{◌≡◌, ℕ, ◌+◌, ◌-◌, ◌*◌, ◌≤◌, ◌<◌, ◌^◌, Bool, true, false, ◌&&◌, List, [], ◌∷◌, ◌++◌}
+use Rattle.std.proofs.Common.{length, Option, Some, None, Ok, refl, sym, ◌∙◌, ap, subst, arith, drop, nat_le, nat_lt}
+use Rattle.std.proofs.Common.{◌==◌, slice_range, inl, inr, length-append}
 use Rattle.std.specs.Prelude.{Contains, MatchBool, fold, if◌then◌else◌, slice_set}
 use Rattle.std.specs.List.{list_any}
 use Rattle.std.proofs.lemmas.Bool.{MatchBool-at_false, eq-eqb, eqb-true, leb-true, false≢true}
@@ -33,7 +35,9 @@ use Rattle.flat_unit.specs.Stands.{Kept, First, HoldsAt, HasProgress, IsProgress
 use Rattle.flat_unit.specs.Task.{Task}
 use Rattle.flat_unit.specs.Tasks.{IsQueue, IsServed}
 use Rattle.flat_unit.specs.Writes.{blocks_ended, blocks_of_head, whole_blocks}
-use Rattle.flat_unit.proofs.standing.Sending.{IsHeld, data_shows, goes_asked, goes_data, goes_ended, goes_harmless, goes_shown, leaves_cut, leaves_good, leaves_no_write, stays_block, left_with, no_progress, none_programmed, with_tasks}
+use Rattle.flat_unit.proofs.standing.Sending.{IsHeld, data_shows, goes_asked, goes_data, goes_ended, goes_harmless}
+use Rattle.flat_unit.proofs.standing.Sending.{goes_shown, leaves_cut, leaves_good, leaves_no_write, stays_block}
+use Rattle.flat_unit.proofs.standing.Sending.{left_with, no_progress, none_programmed, with_tasks}
 use Rattle.flat_unit.proofs.History.{comes, data-consistent, kept_of_kind, owes_reply, ready-consistent, received_answered, received_kept, reject-consistent, response-consistent}
 use Rattle.flat_unit.proofs.standing.Changes.{Goes, device_changes, ends_on, fold_left, holds_on, stands_sent}
 use Rattle.flat_unit.proofs.Numbers.{more_blocks, range-append, same_lba, same_lun, within_bytes, within_luns}

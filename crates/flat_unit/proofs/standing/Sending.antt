@@ -1,5 +1,6 @@
 -- How what a device keeps goes from one moment to the next, for each UPIU that it sends.
-use Rattle.std.proofs.Common.{◌≡◌, ℕ, ◌+◌, ◌≤◌, Bool, true, false, cond, not, ◌&&◌, List, [], ◌∷◌, length, Option, Some, None, refl, sym, ◌∙◌, ap, subst, arith, filter, nat_le, nat_lt, ◌==◌, slice_range}
+use Rattle.std.proofs.Common.{◌≡◌, ℕ, ◌+◌, ◌≤◌, Bool, true, false, cond, not, ◌&&◌, List, [], ◌∷◌, length, Option, Some}
+use Rattle.std.proofs.Common.{None, refl, sym, ◌∙◌, ap, subst, arith, filter, nat_le, nat_lt, ◌==◌, slice_range}
 use Rattle.std.specs.Prelude.{Contains, MatchBool, sum_by, if◌then◌else◌}
 use Rattle.std.specs.List.{AllByRecursion}
 use Rattle.std.proofs.Math.Nat.{zero-div}
@@ -13,7 +14,9 @@ use Rattle.upiu_wire.specs.declared.kind.Kind.TheVariants.{Response, DataIn, Rea
 use Rattle.upiu_wire.specs.Upiu.{Upiu, IsConsistent}
 use Rattle.upiu_wire.specs.Written.{data_upiu, transfer_upiu, response_upiu}
 use Rattle.flat_unit.specs.Command.{is_write}
-use Rattle.flat_unit.specs.Contents.{Block, Shown, Leaving, answered, block_at, block_written, is_among, is_same, leaving_all, next_place, offset_in, seen_at, shown_at, shown_by_kind, with_block, candidates}
+use Rattle.flat_unit.specs.Contents.{Block, Shown, Leaving, answered, block_at, block_written, is_among, is_same}
+use Rattle.flat_unit.specs.Contents.{leaving_all, next_place, offset_in, seen_at, shown_at, shown_by_kind, with_block}
+use Rattle.flat_unit.specs.Contents.{candidates}
 use Rattle.flat_unit.specs.Harmless.{IsHarmless}
 use Rattle.flat_unit.specs.History.{History}
 use Rattle.flat_unit.specs.Queue.{after_sent, with_asked, with_sent, without_tag}

@@ -1,5 +1,5 @@
-//! A device over a chip in memory, as the tests call it. No method has a contract, so the tests are proved without that of
-//! the device.
+//! A device over a chip in memory, as the tests call it. No method has a contract, so the tests are proved without that
+//! of the device.
 use super::*;
 use std::marker::Model;
 

@@ -1,8 +1,8 @@
 //! Lines of calls of a device, and what each tells and sends, as words.
 use super::*;
 
-/// Adds the bytes of words: `z` is four bytes 00h, a byte with an `s` a block of it, `/` nothing, a number of two digits
-/// its byte, any other number its four bytes, and any other word itself.
+/// Adds the bytes of words: `z` is four bytes 00h, a byte with an `s` a block of it, `/` nothing, a number of two
+/// digits its byte, any other number its four bytes, and any other word itself.
 fn push_words(out: &mut Vec<u8>, words: &str) -> Result<(), Fail> {
     for word in words.split_ascii_whitespace() {
         let block = word.strip_suffix('s').unwrap_or("");
@@ -159,10 +159,10 @@ fn wait(bench: &Bench, told: &mut Vec<u8>) -> Result<(), Fail> {
     Ok(())
 }
 
-/// Makes the calls of a line, and adds what they tell and send: `U` hands a UPIU to the device, `W` makes a whole write,
-/// `S` makes a step, `C` one of the collector, `D` steps until the device waits, `X` collects until nothing is left to
-/// collect, `P` scans the chip and tells the number of steps, `R` resets the device, `N` hands it 32 commands, `B` tells
-/// the byte of each block, `#` compares the counts, and `?` tells what the device waits for.
+/// Makes the calls of a line, and adds what they tell and send: `U` hands a UPIU to the device, `W` makes a whole
+/// write, `S` makes a step, `C` one of the collector, `D` steps until the device waits, `X` collects until nothing is
+/// left to collect, `P` scans the chip and tells the number of steps, `R` resets the device, `N` hands it 32 commands,
+/// `B` tells the byte of each block, `#` compares the counts, and `?` tells what the device waits for.
 fn call(alloc: Global, bench: &mut Bench, line: &str, told: &mut Vec<u8>) -> Result<(), Fail> {
     let words = line.get(1..).unwrap_or("");
     match line.as_bytes().first().copied().unwrap_or(0) {

@@ -2,7 +2,8 @@
 //! reset after each call.
 use super::*;
 
-/// A device of 20 blocks that are written in an order without pattern, what each block is, and how many pages are erased.
+/// A device of 20 blocks that are written in an order without pattern, what each block is, and how many pages are
+/// erased.
 #[derive(Drop)]
 struct Run {
     bench: Bench,
@@ -87,8 +88,8 @@ impl Run {
         self.collected(stepped)
     }
 
-    /// The device asked for data, or answered the write: with GOOD where all its blocks are programmed, and with 0Ch/00h
-    /// where a call failed, after which it is made again.
+    /// The device asked for data, or answered the write: with GOOD where all its blocks are programmed, and with
+    /// 0Ch/00h where a call failed, after which it is made again.
     fn answered(&mut self, stepped: Stepped) -> Result<Made, Fail> {
         let (_, n, _) = self.write();
         let upiu = self.bench.upiu();
@@ -287,7 +288,8 @@ impl Run {
         Ok(made)
     }
 
-    /// Whether these calls of the chip are made, the one that fails, at this place, is made again, and the blocks are kept.
+    /// Whether these calls of the chip are made, the one that fails, at this place, is made again, and the blocks are
+    /// kept.
     fn is_kept_by_a_failure(
         &mut self,
         alloc: Global,

@@ -40,4 +40,6 @@ returns-clause-shapes c = ap shapes_of c.loop-unit.invariant.caches ∙ stale_sh
 pub returns-in-Some-clause-present : goal.returns-in-Some-clause-present
 returns-in-Some-clause-present c =
     is_present_load c.args.caches.now c.loop-unit.caches c.loop-unit.unit c.in-Some.region c.in-Some.sub c.index-caches-unit.result c.loop-unit.invariant
-    (omega (arith, c.loop-unit-test.true)) (sym c.index-caches-unit.is) (present_at c.index-caches-unit.result c.loop-unit.caches c.loop-unit.unit c.next_want.new.cache c.in-Some.region c.in-Some.sub c.index-caches-unit.is c.next_want.ensures.shape c.in-Some.ensures.present)
+    (omega (arith, c.loop-unit-test.true)) (sym c.index-caches-unit.is)
+    (present_at c.index-caches-unit.result c.loop-unit.caches c.loop-unit.unit c.next_want.new.cache c.in-Some.region c.in-Some.sub c.index-caches-unit.is c.next_want.ensures.shape
+    c.in-Some.ensures.present)

@@ -70,7 +70,8 @@ returns-in_default c = record {
       let kind : (upiu_at c.args.bytes.now).kind ≡ c.kind.result = rw (← same) (sym c.kind.ensures) in
       record {
         answers = reply_to_kind (sizes c.args.luns c.args.limits geometry) Rattle.std.proofs.Common.true tasks c.args.bytes.now c.kind.result whole kind
-            ∙ (other_kind c.kind.result (sizes c.args.luns c.args.limits geometry) Rattle.std.proofs.Common.true tasks (upiu_at c.args.bytes.now) c.in_default.not-NopOut c.in_default.not-Command c.in_default.not-DataOut refl refl
+            ∙ (other_kind c.kind.result (sizes c.args.luns c.args.limits geometry) Rattle.std.proofs.Common.true tasks (upiu_at c.args.bytes.now) c.in_default.not-NopOut c.in_default.not-Command
+            c.in_default.not-DataOut refl refl
             ∙ ap (λ (b : List ℕ). Some (reject_upiu (upiu_at b).lun (upiu_at b).tag 7)) (sym same) ∙ rw (← c.lun.ensures, ← c.tag-in_default.ensures) refl);
         harmless = reject_harmless (sizes c.args.luns c.args.limits geometry) tasks c.lun.result c.tag-in_default.result 7 (omega arith);
       };

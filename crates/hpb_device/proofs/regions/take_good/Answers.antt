@@ -30,7 +30,9 @@ returns-clause-hint c = λ shape.
     let lun : c.from.result ≡ c.args.task.lun = c.from.ensures in
     let count = count_of c.requires.0 c.requires.1 c.args.machines.now.items at.shapes in
     let same = get_or_default c.args.machines.now.items c.from.result c.index_mut-regions.result.now (start shape) (omega (arith, c.requires.3.lun, lun, count)) in
-    c.take.ensures.hint ∙ ap (λ (m : Machine). hint_of m c.args.task.lun) (c.take_in.ensures.new ∙ ap (λ (m : Machine). after_good m c.args.task.command) (c.index_mut-regions.ensures.value ∙ (same ∙ ap (λ (n : ℕ). get_or c.args.machines.now.items n (start shape)) lun)))
+    c.take.ensures.hint ∙ ap (λ (m : Machine). hint_of m c.args.task.lun)
+    (c.take_in.ensures.new ∙ ap (λ (m : Machine). after_good m c.args.task.command)
+    (c.index_mut-regions.ensures.value ∙ (same ∙ ap (λ (n : ℕ). get_or c.args.machines.now.items n (start shape)) lun)))
 
 pub returns-clause-shapes : goal.returns-clause-shapes
 returns-clause-shapes c =

@@ -46,10 +46,12 @@ returns-in-Ok-link_of-clause-run g c unit unit_is =
       some_block = omega (arith, made.begun.1.limits.least_blocks);
       some_page = omega (arith, made.begun.1.limits.least_pages);
     } in
-    drive_of_link _ unit c.args.driven.named.unit geometry c.in-Ok.device c.in-Ok-link_of.link c.args.driven.plain c.args.driven.answers _ _ _ _ _ _ _ _ _ _ _ c.drive_over.result.status served same fresh c.in-Ok-link_of.ensures.begun c.drive_over.ensures.run
+    drive_of_link _ unit c.args.driven.named.unit geometry c.in-Ok.device c.in-Ok-link_of.link c.args.driven.plain c.args.driven.answers _ _ _ _ _ _ _ _ _ _ _ c.drive_over.result.status served same
+    fresh c.in-Ok-link_of.ensures.begun c.drive_over.ensures.run
 
 pub returns-in-Err-clause-run : goal.returns-in-Err-clause-run
 returns-in-Err-clause-run g c unit unit_is =
     let made = c.in-Ok.ensures in
-    let (served, same) = serves_unit c.args.driven.named.chip (g.F.Flash.geometry c.args.flash) unit c.args.driven.named.unit unit_is (sym c.geometry.ensures ∙ same_chip _ _ _ c.ne.ensures c.if-ne.false) made.begun in
+    let (served, same) = serves_unit c.args.driven.named.chip (g.F.Flash.geometry c.args.flash) unit c.args.driven.named.unit unit_is
+    (sym c.geometry.ensures ∙ same_chip _ _ _ c.ne.ensures c.if-ne.false) made.begun in
     (served, inl ((refl, c.into_flash.ensures.pages ∙ (ap (λ (d : DeviceState). d.store.pages) c.in-Err.ensures.back ∙ made.pages)), refl))

@@ -38,7 +38,8 @@ returns-in-Ended-clause-run g c =
     let turn = c.in-Ended.ensures.turn c.args.device.now _ ran.moment ran.shows.0 ran.shows.1 in
     let few : c.loop-number.number ≤ 1000000 = omega (arith, c.loop-number-test.true) in
     let at = subst (λ (d : DeviceState). Standing c.args.device.now d ran.moment) (sym turn.1) ran.shows.0 in
-    ends_done _ _ _ _ _ _ _ _ _ c.loop-number.number _ ran at c.take_turn.new.device.counts c.end_of_trace.result (counts_of c.args.device.now c.take_turn.new.device ran.moment at) few (ends_in_source _ _ _ turn.0)
+    ends_done _ _ _ _ _ _ _ _ _ c.loop-number.number _ ran at c.take_turn.new.device.counts c.end_of_trace.result (counts_of c.args.device.now c.take_turn.new.device ran.moment at) few
+    (ends_in_source _ _ _ turn.0)
     (c.end_of_trace.ensures.ends _ (print ran.moment.events) turn.2)
 
 pub returns-in-Ended-clause-source_faults : goal.returns-in-Ended-clause-source_faults
@@ -112,7 +113,8 @@ returns-in-Done-clause-run g c =
     let last = rw c.in-Done.is at (c.end_long.ensures.ends _ (print ran.moment.events) ran.shows.1) in
     let whole : HasWrittenUpTo (g.K.Sink.written c.args.sink.now) (g.K.Sink.written c.end_long.new.sink) (print ran.moment.events) c.end_long.new.output =
     rw (c.end_long.ensures.written c.in-Done.is) (all_written _ _ (print ran.moment.events) last.0) in
-    ends_done _ _ _ _ _ _ _ _ _ c.loop-number.number _ ran ran.shows.0 c.loop-number.device.counts c.end_of_trace-in-Done.result (counts_of c.args.device.now c.loop-number.device ran.moment ran.shows.0) (omega (arith, all)) last.1
+    ends_done _ _ _ _ _ _ _ _ _ c.loop-number.number _ ran ran.shows.0 c.loop-number.device.counts c.end_of_trace-in-Done.result
+    (counts_of c.args.device.now c.loop-number.device ran.moment ran.shows.0) (omega (arith, all)) last.1
     (c.end_of_trace-in-Done.ensures.ends _ (print ran.moment.events) whole)
 
 pub returns-in-Done-clause-source_faults : goal.returns-in-Done-clause-source_faults

@@ -21,7 +21,8 @@ returns-clause-drained g c replays done =
 
 pub returns-clause-by_text : goal.returns-clause-by_text
 returns-clause-by_text g c planned =
-    ends_by_text _ _ _ _ _ _ _ _ _ _ _ _ _ c.run_command.result.status planned (c.run_command.ensures.run (replay_no_show _ planned.0) (replay_no_drive _ planned.0)) c.run_command.ensures.source_faults
+    ends_by_text _ _ _ _ _ _ _ _ _ _ _ _ _ c.run_command.result.status planned (c.run_command.ensures.run (replay_no_show _ planned.0) (replay_no_drive _ planned.0))
+    c.run_command.ensures.source_faults
     c.run_command.ensures.sink_faults
 
 pub returns-clause-shown_by_text : goal.returns-clause-shown_by_text

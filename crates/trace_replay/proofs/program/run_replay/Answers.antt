@@ -25,7 +25,8 @@ returns-clause-run g c words replays chip unit =
       some_block = omega (arith, c.in-Ok.ensures.begun.1.limits.least_blocks);
       some_page = omega (arith, c.in-Ok.ensures.begun.1.limits.least_pages);
     } in
-    run_of_chip words geometry c.in-Ok.device c.replay-status.new.device (g.F.Flash.pages c.args.flash) _ _ _ _ _ _ _ _ _ _ c.replay-status.result (replays, named) fresh (ap (λ (r : ReaderState). r.held) c.in-Ok-new.ensures.reader) c.into_flash-2.ensures.pages c.into_flash-2.ensures.faults c.replay-status.ensures.run
+    run_of_chip words geometry c.in-Ok.device c.replay-status.new.device (g.F.Flash.pages c.args.flash) _ _ _ _ _ _ _ _ _ _ c.replay-status.result (replays, named) fresh
+    (ap (λ (r : ReaderState). r.held) c.in-Ok-new.ensures.reader) c.into_flash-2.ensures.pages c.into_flash-2.ensures.faults c.replay-status.ensures.run
 
 pub returns-in-Err-default-Geometry-clause-run : goal.returns-in-Err-default-Geometry-clause-run
 returns-in-Err-default-Geometry-clause-run g c words replays chip unit =

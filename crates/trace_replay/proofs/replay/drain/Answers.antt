@@ -19,13 +19,16 @@ pub steps-preserved : goal.steps-preserved
 steps-preserved g c =
     let going : AtRest c.steps.device → ⊥ = c.in-Step.ensures.rest.0 refl in
     let step : Stepping c.steps.device c.step-stepped.new.self c.step-stepped.result c.step-stepped.new.out =
-    stepping_of c.steps.device c.step-stepped.new.self c.step-stepped.result c.step-stepped.new.out c.step-stepped.ensures.stands c.step-stepped.ensures.foreign c.step-stepped.ensures.entries c.step-stepped.ensures.listings c.step-stepped.ensures.counted c.step-stepped.ensures.hints c.step-stepped.ensures.fetched
-    (λ idle. going (idle_rests c.steps.device.store.phase c.steps.device.tasks (c.step-stepped.ensures.idle.0 idle))) c.step-stepped.ensures.idle.1 c.step-stepped.ensures.steps c.step-stepped.ensures.fewer c.step-stepped.ensures.shape
+    stepping_of c.steps.device c.step-stepped.new.self c.step-stepped.result c.step-stepped.new.out c.step-stepped.ensures.stands c.step-stepped.ensures.foreign c.step-stepped.ensures.entries
+    c.step-stepped.ensures.listings c.step-stepped.ensures.counted c.step-stepped.ensures.hints c.step-stepped.ensures.fetched
+    (λ idle. going (idle_rests c.steps.device.store.phase c.steps.device.tasks (c.step-stepped.ensures.idle.0 idle))) c.step-stepped.ensures.idle.1 c.step-stepped.ensures.steps
+    c.step-stepped.ensures.fewer c.step-stepped.ensures.shape
     c.push_step.ensures.bytes c.push_step.ensures.small in
     record {
       drains = λ start before p at printed.
           let so_far = c.steps.invariant.drains start before p at printed in
-          draining_goes_on start c.steps.device c.step-stepped.new.self before _ c.make_room.new.output c.push_step.new.output p c.step-stepped.result c.step-stepped.new.out going step c.push_step.ensures.text
+          draining_goes_on start c.steps.device c.step-stepped.new.self before _ c.make_room.new.output c.push_step.new.output p c.step-stepped.result c.step-stepped.new.out going step
+          c.push_step.ensures.text
           (draining_written start c.steps.device before _ _ _ _ p so_far (c.in_ok-make_room.ensures.text before (print so_far.moment.events) so_far.printed));
       grows = grows_more _ _ _ c.steps.invariant.grows (keeps_grows _ _ _ _ c.make_room.result c.make_room.ensures.text);
       none = c.in_ok-make_room.ensures.cause.given ∙ c.steps.invariant.none;

@@ -16,12 +16,15 @@ loop-step-init g c = record {
 
 pub loop-step-preserved : goal.loop-step-preserved
 loop-step-preserved g c =
-    let step = stepping_of c.loop-step.device c.step-stepped.new.self c.step-stepped.result c.step-stepped.new.out c.step-stepped.ensures.stands c.step-stepped.ensures.foreign c.step-stepped.ensures.entries c.step-stepped.ensures.listings c.step-stepped.ensures.counted c.step-stepped.ensures.hints c.step-stepped.ensures.fetched
-    (λ idle. false≢true (sym c.if-stepped.false ∙ idle)) c.step-stepped.ensures.idle.1 c.step-stepped.ensures.steps c.step-stepped.ensures.fewer c.step-stepped.ensures.shape c.push_step.ensures.bytes c.push_step.ensures.small in
+    let step = stepping_of c.loop-step.device c.step-stepped.new.self c.step-stepped.result c.step-stepped.new.out c.step-stepped.ensures.stands c.step-stepped.ensures.foreign
+    c.step-stepped.ensures.entries c.step-stepped.ensures.listings c.step-stepped.ensures.counted c.step-stepped.ensures.hints c.step-stepped.ensures.fetched
+    (λ idle. false≢true (sym c.if-stepped.false ∙ idle)) c.step-stepped.ensures.idle.1 c.step-stepped.ensures.steps c.step-stepped.ensures.fewer c.step-stepped.ensures.shape c.push_step.ensures.bytes
+    c.push_step.ensures.small in
     record {
       makes = λ start before p at printed.
           let so_far = c.loop-step.invariant.makes start before p at printed in
-          made_goes_on start c.loop-step.device c.step-stepped.new.self before _ _ _ p c.step-stepped.result c.step-stepped.new.out c.loop-step._step (c.loop-step._step + 1) (rw add-one refl) step c.push_step.ensures.text
+          made_goes_on start c.loop-step.device c.step-stepped.new.self before _ _ _ p c.step-stepped.result c.step-stepped.new.out c.loop-step._step (c.loop-step._step + 1) (rw add-one refl) step
+          c.push_step.ensures.text
           (made_written start c.loop-step.device before _ _ _ _ p c.loop-step._step so_far (c.in_ok-make_room.ensures.text before (print so_far.moment.events) so_far.printed));
       grows = grows_more _ _ _ c.loop-step.invariant.grows (keeps_grows _ _ _ _ c.make_room.result c.make_room.ensures.text);
       none = c.in_ok-make_room.ensures.cause.given ∙ c.loop-step.invariant.none;
@@ -40,7 +43,8 @@ pub returns-in_err-make_room-clause-serves : goal.returns-in_err-make_room-claus
 returns-in_err-make_room-clause-serves g c start before p at printed =
     let so_far = c.loop-step.invariant.makes start before p at printed in
     let failed = err_from_is_err_and c.from_residual.result c.from_residual.ensures.1 in
-    rw failed.1 (made_is_cut start c.loop-step.device before _ _ _ p c.loop-step._step c.args.count (omega (arith, c.loop-step-test.true)) so_far (c.in_err-make_room.ensures.text before (print so_far.moment.events) so_far.printed))
+    rw failed.1 (made_is_cut start c.loop-step.device before _ _ _ p c.loop-step._step c.args.count (omega (arith, c.loop-step-test.true)) so_far
+    (c.in_err-make_room.ensures.text before (print so_far.moment.events) so_far.printed))
 
 pub returns-clause-serves : goal.returns-clause-serves
 returns-clause-serves g c start before p at printed =

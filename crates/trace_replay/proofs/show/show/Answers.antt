@@ -77,7 +77,8 @@ returns-in-Bad-clause-show g c =
     let ran = c.loop-number.invariant.ran in
     let turn = c.in-Bad.ensures.turn _ ran.0 ran.2 in
     let few : c.loop-number.number < 1000000 = omega (arith, c.loop-number-test.true) in
-    show_bad _ _ _ _ _ _ c.loop-number.number ran.0 ran.1 c.refuse_line.result _ _ (omega arith) few turn.0 (c.show_line.new.buffers.reader.held, keeps_same _) (c.refuse_line.ensures.ends _ ran.0 turn.1)
+    show_bad _ _ _ _ _ _ c.loop-number.number ran.0 ran.1 c.refuse_line.result _ _ (omega arith) few turn.0 (c.show_line.new.buffers.reader.held, keeps_same _)
+    (c.refuse_line.ensures.ends _ ran.0 turn.1)
 
 pub returns-in-Bad-clause-source_faults : goal.returns-in-Bad-clause-source_faults
 returns-in-Bad-clause-source_faults g c =
@@ -91,7 +92,8 @@ returns-in-Bad-clause-sink_faults g c =
     let ran = c.loop-number.invariant.ran in
     let turn = c.in-Bad.ensures.turn _ ran.0 ran.2 in
     let same = c.in-Bad.ensures.sink_faults ∙ c.loop-number.invariant.sink_same in
-    subst (λ (n : ℕ). SinkEnds n (g.K.Sink.faults c.refuse_line.new.sink) c.refuse_line.result) same (sink_ended _ _ c.refuse_line.result (BadLine _) (λ none. none) (c.refuse_line.ensures.ends _ ran.0 turn.1))
+    subst (λ (n : ℕ). SinkEnds n (g.K.Sink.faults c.refuse_line.new.sink) c.refuse_line.result) same
+    (sink_ended _ _ c.refuse_line.result (BadLine _) (λ none. none) (c.refuse_line.ensures.ends _ ran.0 turn.1))
 
 pub returns-clause-show : goal.returns-clause-show
 returns-clause-show g c =

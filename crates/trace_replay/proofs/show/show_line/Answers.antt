@@ -54,16 +54,21 @@ returns-in-Err-ReadFault-clause-turn g c before text so_far =
     (reads.0.0, up_to_end before _ text _ (still_none _ _ none c.make_room.ensures.kept) second)
 
 pub returns-in-Ok-None-clause-asked : goal.returns-in-Ok-None-clause-asked
-returns-in-Ok-None-clause-asked g c = asked_after _ _ _ _ _ _ _ c.write_before_read.result c.write_before_read.ensures.text (search rules) c.write_before_read.ensures.all c.in-Ok-None.ensures.still (keeps_grows _ _ _ _ c.make_room.result c.make_room.ensures.text)
+returns-in-Ok-None-clause-asked g c = asked_after _ _ _ _ _ _ _ c.write_before_read.result c.write_before_read.ensures.text (search rules) c.write_before_read.ensures.all c.in-Ok-None.ensures.still
+    (keeps_grows _ _ _ _ c.make_room.result c.make_room.ensures.text)
 
 pub returns-in-Err-TooLong-clause-asked : goal.returns-in-Err-TooLong-clause-asked
-returns-in-Err-TooLong-clause-asked g c = asked_after _ _ _ _ _ _ _ c.write_before_read.result c.write_before_read.ensures.text (search rules) c.write_before_read.ensures.all c.in-Err-TooLong.ensures.still (keeps_grows _ _ _ _ c.make_room.result c.make_room.ensures.text)
+returns-in-Err-TooLong-clause-asked g c = asked_after _ _ _ _ _ _ _ c.write_before_read.result c.write_before_read.ensures.text (search rules) c.write_before_read.ensures.all
+    c.in-Err-TooLong.ensures.still (keeps_grows _ _ _ _ c.make_room.result c.make_room.ensures.text)
 
 pub returns-in-Err-ReadFault-clause-asked : goal.returns-in-Err-ReadFault-clause-asked
-returns-in-Err-ReadFault-clause-asked g c = asked_after _ _ _ _ _ _ _ c.write_before_read.result c.write_before_read.ensures.text (search rules) c.write_before_read.ensures.all c.in-Err-ReadFault.ensures.still (keeps_grows _ _ _ _ c.make_room.result c.make_room.ensures.text)
+returns-in-Err-ReadFault-clause-asked g c = asked_after _ _ _ _ _ _ _ c.write_before_read.result c.write_before_read.ensures.text (search rules) c.write_before_read.ensures.all
+    c.in-Err-ReadFault.ensures.still (keeps_grows _ _ _ _ c.make_room.result c.make_room.ensures.text)
 
 pub returns-then-push_shown-clause-asked : goal.returns-then-push_shown-clause-asked
-returns-then-push_shown-clause-asked g c = asked_after _ _ _ _ _ _ _ c.write_before_read.result c.write_before_read.ensures.text (search rules) c.write_before_read.ensures.all c.in-Ok-Some.ensures.still (keeps_grows _ _ _ _ c.make_room.result c.make_room.ensures.text)
+returns-then-push_shown-clause-asked g c = asked_after _ _ _ _ _ _ _ c.write_before_read.result c.write_before_read.ensures.text (search rules) c.write_before_read.ensures.all
+    c.in-Ok-Some.ensures.still (keeps_grows _ _ _ _ c.make_room.result c.make_room.ensures.text)
 
 pub returns-else-push_shown-clause-asked : goal.returns-else-push_shown-clause-asked
-returns-else-push_shown-clause-asked g c = asked_after _ _ _ _ _ _ _ c.write_before_read.result c.write_before_read.ensures.text (search rules) c.write_before_read.ensures.all c.in-Ok-Some.ensures.still (keeps_grows _ _ _ _ c.make_room.result c.make_room.ensures.text)
+returns-else-push_shown-clause-asked g c = asked_after _ _ _ _ _ _ _ c.write_before_read.result c.write_before_read.ensures.text (search rules) c.write_before_read.ensures.all
+    c.in-Ok-Some.ensures.still (keeps_grows _ _ _ _ c.make_room.result c.make_room.ensures.text)

@@ -9,5 +9,6 @@ returns-clause-written c =
     let len = length-encode_with lower_digits c.args.bytes.now in
     let part = c.encode.ensures in
     let front = c.put_marked-front.ensures.written in
-    let middle = Puts-part c.put_marked-front.new.out c.put_marked-front.result _ (c.put_marked-front.result + 2 * length c.args.bytes.now) c.encode.new.out (omega arith) (rw part (omega arith)) (rw part (omega arith)) in
+    let middle = Puts-part c.put_marked-front.new.out c.put_marked-front.result _ (c.put_marked-front.result + 2 * length c.args.bytes.now) c.encode.new.out (omega arith) (rw part (omega arith))
+    (rw part (omega arith)) in
     rw (← part) (Puts-line (Puts-then (Puts-then front middle) c.put.ensures))

@@ -83,7 +83,8 @@ invariant_of-self g c =
     let ok : AllTasks (IsTaskOk s.luns lim) p.result =
     subst (λ (luns : ℕ). AllTasks (IsTaskOk luns lim) p.result) c.self.invariant.luns_served
     (subst (λ (l : Limits). AllTasks (IsTaskOk s.store.luns l) p.result) c.limits_of-limits.ensures p.ensures.ok) in
-    let whole = whole_after lim d.store p.new.store d.held p.new.held.items task p.result p.new.out (task_ok g c) (sym c.self.invariant.units_served) ((standing g c).ready (is_ready g c)) (told g c) in
+    let whole = whole_after lim d.store p.new.store d.held p.new.held.items task p.result p.new.out (task_ok g c) (sym c.self.invariant.units_served) ((standing g c).ready (is_ready g c))
+    (told g c) in
     record {
       limits = c.self.invariant.limits;
       luns_served = same.luns ∙ c.self.invariant.luns_served;
@@ -92,7 +93,8 @@ invariant_of-self g c =
       whole = whole.count ∙ (c.self.invariant.whole ∙ ap (λ (geometry : Geometry). geometry.blocks * geometry.pages) (sym same.geometry));
       shapes = c.take_progress-hint.ensures.shapes ∙ c.self.invariant.shapes;
       all_lists = c.step_list.ensures.count ∙ c.self.invariant.all_lists;
-      queue = leaves_queue _ s.luns lim p.result _ c.leave.new.tasks.items p.new.held.items c.leave.new.held.items c.leave.result _ _ c.leave.ensures.leaves c.leave.ensures.stays ok p.ensures.held queue.2;
+      queue = leaves_queue _ s.luns lim p.result _ c.leave.new.tasks.items p.new.held.items c.leave.new.held.items c.leave.result _ _ c.leave.ensures.leaves c.leave.ensures.stays ok p.ensures.held
+          queue.2;
       burst = omega (arith, c.self.invariant.burst, c.leave.ensures.room, p.ensures.room);
       unbegun = λ other. absurd (other (same.phase ∙ is_ready g c));
     }
@@ -141,8 +143,10 @@ returns-clause-goes g c =
       scanned = subst (λ (x : DeviceState). unscanned x ≡ 0) c.self.view_is none;
       sound = subst IsSound c.self.view_is (stands.ready (is_ready g c)).sound;
       advances = subst (λ (x : DeviceState). Advances (limits_of x.shape) x.store p.new.store x.held c.leave.new.held.items task p.result c.leave.new.out) c.self.view_is (advances g c);
-      leaves = subst (λ (x : DeviceState). Leaves p.result (segment_told x.shape x.regions task p.result) (others g c) c.leave.new.tasks.items c.leave.new.held.items c.leave.result c.leave.new.out) c.self.view_is
-          (subst (λ (b : List ℕ). Leaves p.result b (others g c) c.leave.new.tasks.items c.leave.new.held.items c.leave.result c.leave.new.out) (c.take_progress-hint.ensures.segment d.shape) c.leave.ensures.leaves);
+      leaves = subst (λ (x : DeviceState). Leaves p.result (segment_told x.shape x.regions task p.result) (others g c) c.leave.new.tasks.items c.leave.new.held.items c.leave.result c.leave.new.out)
+          c.self.view_is
+          (subst (λ (b : List ℕ). Leaves p.result b (others g c) c.leave.new.tasks.items c.leave.new.held.items c.leave.result c.leave.new.out) (c.take_progress-hint.ensures.segment d.shape)
+          c.leave.ensures.leaves);
       regions = subst (λ (x : DeviceState). c.take_progress-hint.new.machines.items ≡ regions_after x.shape x.regions task p.result) c.self.view_is (c.take_progress-hint.ensures.regions d.shape);
       same = subst (λ (x : DeviceState). IsSame x.store p.new.store) c.self.view_is p.ensures.same;
       counts = c.after-counts.ensures ∙ ap (λ (x : DeviceState). counted x.counts p.result) c.self.view_is;

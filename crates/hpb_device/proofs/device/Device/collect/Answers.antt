@@ -14,7 +14,9 @@ use Rattle.hpb_device.specs.Left.{KeepsNoWrite, steps_left}
 use Rattle.hpb_device.specs.Listed.{ListingStands}
 use Rattle.hpb_device.specs.Standing.{DeviceStands, DeviceStandsForeign}
 use Rattle.hpb_device.specs.State.{DeviceState}
-use Rattle.hpb_device.proofs.Collecting.{IsCollecting, IsMoved, collect_left, collected_over, idle_leaves_none, moved_entries, moved_listings, moved_of_collect, moved_stands, no_foreign, unmoved_stands, whole_moved}
+use Rattle.hpb_device.proofs.Collecting.{IsCollecting, IsMoved, collect_left, collected_over, idle_leaves_none}
+use Rattle.hpb_device.proofs.Collecting.{moved_entries, moved_listings, moved_of_collect, moved_stands, no_foreign}
+use Rattle.hpb_device.proofs.Collecting.{unmoved_stands, whole_moved}
 use Rattle.flat_unit.specs.declared.event.Event.TheVariants.{Failed as CallFailed}
 use Rattle.flat_unit.specs.History.{◌▹◌}
 use Rattle.hpb_device.specs.Regions.{HintsStand}
@@ -31,7 +33,15 @@ pub invariant_of-self-in-Ok-Erased : goal.invariant_of-self-in-Ok-Erased
 invariant_of-self-in-Ok-Erased g c =
     let s = c.self.inside in
     let d : DeviceState = record { store = s.store; shape = s.shape; regions = s.regions.items; lists = s.lists; tasks = s.tasks.items; held = s.held.items; counts = s.counts } in
-    let n : DeviceState = record { store = c.collect_step.new.self; shape = s.shape; regions = s.regions.items; lists = s.lists; tasks = s.tasks.items; held = s.held.items; counts = c.after_moved-self-inside-in-Ok-Erased.result } in
+    let n : DeviceState = record {
+      store = c.collect_step.new.self;
+      shape = s.shape;
+      regions = s.regions.items;
+      lists = s.lists;
+      tasks = s.tasks.items;
+      held = s.held.items;
+      counts = c.after_moved-self-inside-in-Ok-Erased.result;
+    } in
     let ready : d.store.phase ≡ Ready = sym c.phase.ensures.phase ∙ c.in-Ready.is in
     let is : IsCollecting d n = record { ready = ready; standing = c.phase.ensures.stands; same = c.collect_step.ensures.same; shape = refl; lists = refl; tasks = refl; held = refl } in
     let at = c.self.invariant in
@@ -90,7 +100,15 @@ pub returns-in-Ok-Page-clause-foreign : goal.returns-in-Ok-Page-clause-foreign
 returns-in-Ok-Page-clause-foreign g c = λ chip first e at.
     let s = c.self.inside in
     let d : DeviceState = record { store = s.store; shape = s.shape; regions = s.regions.items; lists = s.lists; tasks = s.tasks.items; held = s.held.items; counts = s.counts } in
-    let n : DeviceState = record { store = c.collect_step.new.self; shape = s.shape; regions = c.take_moved.new.machines.items; lists = s.lists; tasks = s.tasks.items; held = s.held.items; counts = c.after_moved-self-inside.result } in
+    let n : DeviceState = record {
+      store = c.collect_step.new.self;
+      shape = s.shape;
+      regions = c.take_moved.new.machines.items;
+      lists = s.lists;
+      tasks = s.tasks.items;
+      held = s.held.items;
+      counts = c.after_moved-self-inside.result;
+    } in
     let ready : d.store.phase ≡ Ready = sym c.phase.ensures.phase ∙ c.in-Ready.is in
     let is : IsCollecting d n = record { ready = ready; standing = c.phase.ensures.stands; same = c.collect_step.ensures.same; shape = refl; lists = refl; tasks = refl; held = refl } in
     no_foreign d n is chip first e _ (subst (λ (x : DeviceState). DeviceStandsForeign x chip first e) (sym c.self.view_is) at)
@@ -99,7 +117,15 @@ pub returns-in-Ok-Page-clause-left : goal.returns-in-Ok-Page-clause-left
 returns-in-Ok-Page-clause-left g c = λ none.
     let s = c.self.inside in
     let d : DeviceState = record { store = s.store; shape = s.shape; regions = s.regions.items; lists = s.lists; tasks = s.tasks.items; held = s.held.items; counts = s.counts } in
-    let n : DeviceState = record { store = c.collect_step.new.self; shape = s.shape; regions = c.take_moved.new.machines.items; lists = s.lists; tasks = s.tasks.items; held = s.held.items; counts = c.after_moved-self-inside.result } in
+    let n : DeviceState = record {
+      store = c.collect_step.new.self;
+      shape = s.shape;
+      regions = c.take_moved.new.machines.items;
+      lists = s.lists;
+      tasks = s.tasks.items;
+      held = s.held.items;
+      counts = c.after_moved-self-inside.result;
+    } in
     let ready : d.store.phase ≡ Ready = sym c.phase.ensures.phase ∙ c.in-Ready.is in
     let is : IsCollecting d n = record { ready = ready; standing = c.phase.ensures.stands; same = c.collect_step.ensures.same; shape = refl; lists = refl; tasks = refl; held = refl } in
     subst (λ (x : DeviceState). steps_left n ≡ steps_left x) c.self.view_is (collect_left d n is (subst (λ (x : DeviceState). KeepsNoWrite x.tasks) (sym c.self.view_is) none))
@@ -108,7 +134,15 @@ pub returns-in-Ok-Erased-clause-foreign : goal.returns-in-Ok-Erased-clause-forei
 returns-in-Ok-Erased-clause-foreign g c = λ chip first e at.
     let s = c.self.inside in
     let d : DeviceState = record { store = s.store; shape = s.shape; regions = s.regions.items; lists = s.lists; tasks = s.tasks.items; held = s.held.items; counts = s.counts } in
-    let n : DeviceState = record { store = c.collect_step.new.self; shape = s.shape; regions = s.regions.items; lists = s.lists; tasks = s.tasks.items; held = s.held.items; counts = c.after_moved-self-inside-in-Ok-Erased.result } in
+    let n : DeviceState = record {
+      store = c.collect_step.new.self;
+      shape = s.shape;
+      regions = s.regions.items;
+      lists = s.lists;
+      tasks = s.tasks.items;
+      held = s.held.items;
+      counts = c.after_moved-self-inside-in-Ok-Erased.result;
+    } in
     let ready : d.store.phase ≡ Ready = sym c.phase.ensures.phase ∙ c.in-Ready.is in
     let is : IsCollecting d n = record { ready = ready; standing = c.phase.ensures.stands; same = c.collect_step.ensures.same; shape = refl; lists = refl; tasks = refl; held = refl } in
     no_foreign d n is chip first e _ (subst (λ (x : DeviceState). DeviceStandsForeign x chip first e) (sym c.self.view_is) at)
@@ -117,7 +151,15 @@ pub returns-in-Ok-Erased-clause-left : goal.returns-in-Ok-Erased-clause-left
 returns-in-Ok-Erased-clause-left g c = λ none.
     let s = c.self.inside in
     let d : DeviceState = record { store = s.store; shape = s.shape; regions = s.regions.items; lists = s.lists; tasks = s.tasks.items; held = s.held.items; counts = s.counts } in
-    let n : DeviceState = record { store = c.collect_step.new.self; shape = s.shape; regions = s.regions.items; lists = s.lists; tasks = s.tasks.items; held = s.held.items; counts = c.after_moved-self-inside-in-Ok-Erased.result } in
+    let n : DeviceState = record {
+      store = c.collect_step.new.self;
+      shape = s.shape;
+      regions = s.regions.items;
+      lists = s.lists;
+      tasks = s.tasks.items;
+      held = s.held.items;
+      counts = c.after_moved-self-inside-in-Ok-Erased.result;
+    } in
     let ready : d.store.phase ≡ Ready = sym c.phase.ensures.phase ∙ c.in-Ready.is in
     let is : IsCollecting d n = record { ready = ready; standing = c.phase.ensures.stands; same = c.collect_step.ensures.same; shape = refl; lists = refl; tasks = refl; held = refl } in
     subst (λ (x : DeviceState). steps_left n ≡ steps_left x) c.self.view_is (collect_left d n is (subst (λ (x : DeviceState). KeepsNoWrite x.tasks) (sym c.self.view_is) none))
@@ -136,66 +178,127 @@ pub returns-in-Ok-Page-clause-stands : goal.returns-in-Ok-Page-clause-stands
 returns-in-Ok-Page-clause-stands g c = λ first e at.
     let s = c.self.inside in
     let d : DeviceState = record { store = s.store; shape = s.shape; regions = s.regions.items; lists = s.lists; tasks = s.tasks.items; held = s.held.items; counts = s.counts } in
-    let n : DeviceState = record { store = c.collect_step.new.self; shape = s.shape; regions = c.take_moved.new.machines.items; lists = s.lists; tasks = s.tasks.items; held = s.held.items; counts = c.after_moved-self-inside.result } in
+    let n : DeviceState = record {
+      store = c.collect_step.new.self;
+      shape = s.shape;
+      regions = c.take_moved.new.machines.items;
+      lists = s.lists;
+      tasks = s.tasks.items;
+      held = s.held.items;
+      counts = c.after_moved-self-inside.result;
+    } in
     let ready : d.store.phase ≡ Ready = sym c.phase.ensures.phase ∙ c.in-Ready.is in
     let is : IsCollecting d n = record { ready = ready; standing = c.phase.ensures.stands; same = c.collect_step.ensures.same; shape = refl; lists = refl; tasks = refl; held = refl } in
-    let moved : IsMoved d n (MovedPage c.in-Ok-Page.lun c.in-Ok-Page.lba) = moved_of_collect d n is (MovedPage c.in-Ok-Page.lun c.in-Ok-Page.lba) (subst (λ (m : Moved). IsCollected d.store m n.store) c.in-Ok-Page.field-0-is (c.in-Ok-Page.ensures.moved ready))
-    (subst (λ (m : Moved). Changes d.store.geometry d.store.luns d.store.units d.store.pages (as_collected m) n.store.pages) c.in-Ok-Page.field-0-is (c.in-Ok-Page.ensures.changes ready)) c.in-Ok-Page.ensures.unit c.after_moved-self-inside.ensures in
+    let moved : IsMoved d n (MovedPage c.in-Ok-Page.lun c.in-Ok-Page.lba) = moved_of_collect d n is (MovedPage c.in-Ok-Page.lun c.in-Ok-Page.lba)
+    (subst (λ (m : Moved). IsCollected d.store m n.store) c.in-Ok-Page.field-0-is (c.in-Ok-Page.ensures.moved ready))
+    (subst (λ (m : Moved). Changes d.store.geometry d.store.luns d.store.units d.store.pages (as_collected m) n.store.pages) c.in-Ok-Page.field-0-is (c.in-Ok-Page.ensures.changes ready))
+    c.in-Ok-Page.ensures.unit c.after_moved-self-inside.ensures in
     rw (c.new-in-Ok-Page.ensures) (moved_stands d n (MovedPage c.in-Ok-Page.lun c.in-Ok-Page.lba) [] first e moved (subst (λ (x : DeviceState). DeviceStands x first e) (sym c.self.view_is) at))
 
 pub returns-in-Ok-Page-clause-entries : goal.returns-in-Ok-Page-clause-entries
 returns-in-Ok-Page-clause-entries g c = λ e stand.
     let s = c.self.inside in
     let d : DeviceState = record { store = s.store; shape = s.shape; regions = s.regions.items; lists = s.lists; tasks = s.tasks.items; held = s.held.items; counts = s.counts } in
-    let n : DeviceState = record { store = c.collect_step.new.self; shape = s.shape; regions = c.take_moved.new.machines.items; lists = s.lists; tasks = s.tasks.items; held = s.held.items; counts = c.after_moved-self-inside.result } in
+    let n : DeviceState = record {
+      store = c.collect_step.new.self;
+      shape = s.shape;
+      regions = c.take_moved.new.machines.items;
+      lists = s.lists;
+      tasks = s.tasks.items;
+      held = s.held.items;
+      counts = c.after_moved-self-inside.result;
+    } in
     let ready : d.store.phase ≡ Ready = sym c.phase.ensures.phase ∙ c.in-Ready.is in
     let is : IsCollecting d n = record { ready = ready; standing = c.phase.ensures.stands; same = c.collect_step.ensures.same; shape = refl; lists = refl; tasks = refl; held = refl } in
-    let moved : IsMoved d n (MovedPage c.in-Ok-Page.lun c.in-Ok-Page.lba) = moved_of_collect d n is (MovedPage c.in-Ok-Page.lun c.in-Ok-Page.lba) (subst (λ (m : Moved). IsCollected d.store m n.store) c.in-Ok-Page.field-0-is (c.in-Ok-Page.ensures.moved ready))
-    (subst (λ (m : Moved). Changes d.store.geometry d.store.luns d.store.units d.store.pages (as_collected m) n.store.pages) c.in-Ok-Page.field-0-is (c.in-Ok-Page.ensures.changes ready)) c.in-Ok-Page.ensures.unit c.after_moved-self-inside.ensures in
+    let moved : IsMoved d n (MovedPage c.in-Ok-Page.lun c.in-Ok-Page.lba) = moved_of_collect d n is (MovedPage c.in-Ok-Page.lun c.in-Ok-Page.lba)
+    (subst (λ (m : Moved). IsCollected d.store m n.store) c.in-Ok-Page.field-0-is (c.in-Ok-Page.ensures.moved ready))
+    (subst (λ (m : Moved). Changes d.store.geometry d.store.luns d.store.units d.store.pages (as_collected m) n.store.pages) c.in-Ok-Page.field-0-is (c.in-Ok-Page.ensures.changes ready))
+    c.in-Ok-Page.ensures.unit c.after_moved-self-inside.ensures in
     rw (c.new-in-Ok-Page.ensures) (moved_entries d n (MovedPage c.in-Ok-Page.lun c.in-Ok-Page.lba) [] e moved (subst (λ (x : DeviceState). EntriesStand x e) (sym c.self.view_is) stand))
 
 pub returns-in-Ok-Page-clause-listings : goal.returns-in-Ok-Page-clause-listings
 returns-in-Ok-Page-clause-listings g c = λ had pages e stand.
     let s = c.self.inside in
     let d : DeviceState = record { store = s.store; shape = s.shape; regions = s.regions.items; lists = s.lists; tasks = s.tasks.items; held = s.held.items; counts = s.counts } in
-    let n : DeviceState = record { store = c.collect_step.new.self; shape = s.shape; regions = c.take_moved.new.machines.items; lists = s.lists; tasks = s.tasks.items; held = s.held.items; counts = c.after_moved-self-inside.result } in
+    let n : DeviceState = record {
+      store = c.collect_step.new.self;
+      shape = s.shape;
+      regions = c.take_moved.new.machines.items;
+      lists = s.lists;
+      tasks = s.tasks.items;
+      held = s.held.items;
+      counts = c.after_moved-self-inside.result;
+    } in
     let ready : d.store.phase ≡ Ready = sym c.phase.ensures.phase ∙ c.in-Ready.is in
     let is : IsCollecting d n = record { ready = ready; standing = c.phase.ensures.stands; same = c.collect_step.ensures.same; shape = refl; lists = refl; tasks = refl; held = refl } in
-    let moved : IsMoved d n (MovedPage c.in-Ok-Page.lun c.in-Ok-Page.lba) = moved_of_collect d n is (MovedPage c.in-Ok-Page.lun c.in-Ok-Page.lba) (subst (λ (m : Moved). IsCollected d.store m n.store) c.in-Ok-Page.field-0-is (c.in-Ok-Page.ensures.moved ready))
-    (subst (λ (m : Moved). Changes d.store.geometry d.store.luns d.store.units d.store.pages (as_collected m) n.store.pages) c.in-Ok-Page.field-0-is (c.in-Ok-Page.ensures.changes ready)) c.in-Ok-Page.ensures.unit c.after_moved-self-inside.ensures in
-    rw (c.new-in-Ok-Page.ensures) (moved_listings d n (MovedPage c.in-Ok-Page.lun c.in-Ok-Page.lba) [] had pages e moved (subst (λ (x : DeviceState). ListingStands had pages x e) (sym c.self.view_is) stand))
+    let moved : IsMoved d n (MovedPage c.in-Ok-Page.lun c.in-Ok-Page.lba) = moved_of_collect d n is (MovedPage c.in-Ok-Page.lun c.in-Ok-Page.lba)
+    (subst (λ (m : Moved). IsCollected d.store m n.store) c.in-Ok-Page.field-0-is (c.in-Ok-Page.ensures.moved ready))
+    (subst (λ (m : Moved). Changes d.store.geometry d.store.luns d.store.units d.store.pages (as_collected m) n.store.pages) c.in-Ok-Page.field-0-is (c.in-Ok-Page.ensures.changes ready))
+    c.in-Ok-Page.ensures.unit c.after_moved-self-inside.ensures in
+    rw (c.new-in-Ok-Page.ensures) (moved_listings d n (MovedPage c.in-Ok-Page.lun c.in-Ok-Page.lba) [] had pages e moved
+    (subst (λ (x : DeviceState). ListingStands had pages x e) (sym c.self.view_is) stand))
 
 pub returns-in-Ok-Erased-clause-stands : goal.returns-in-Ok-Erased-clause-stands
 returns-in-Ok-Erased-clause-stands g c = λ first e at.
     let s = c.self.inside in
     let d : DeviceState = record { store = s.store; shape = s.shape; regions = s.regions.items; lists = s.lists; tasks = s.tasks.items; held = s.held.items; counts = s.counts } in
-    let n : DeviceState = record { store = c.collect_step.new.self; shape = s.shape; regions = s.regions.items; lists = s.lists; tasks = s.tasks.items; held = s.held.items; counts = c.after_moved-self-inside-in-Ok-Erased.result } in
+    let n : DeviceState = record {
+      store = c.collect_step.new.self;
+      shape = s.shape;
+      regions = s.regions.items;
+      lists = s.lists;
+      tasks = s.tasks.items;
+      held = s.held.items;
+      counts = c.after_moved-self-inside-in-Ok-Erased.result;
+    } in
     let ready : d.store.phase ≡ Ready = sym c.phase.ensures.phase ∙ c.in-Ready.is in
     let is : IsCollecting d n = record { ready = ready; standing = c.phase.ensures.stands; same = c.collect_step.ensures.same; shape = refl; lists = refl; tasks = refl; held = refl } in
-    let moved : IsMoved d n (ErasedBlock c.in-Ok-Erased.block) = moved_of_collect d n is (ErasedBlock c.in-Ok-Erased.block) (subst (λ (m : Moved). IsCollected d.store m n.store) c.in-Ok-Erased.field-0-is (c.in-Ok-Erased.ensures.moved ready))
-    (subst (λ (m : Moved). Changes d.store.geometry d.store.luns d.store.units d.store.pages (as_collected m) n.store.pages) c.in-Ok-Erased.field-0-is (c.in-Ok-Erased.ensures.changes ready)) c.in-Ok-Erased.ensures.unit c.after_moved-self-inside-in-Ok-Erased.ensures in
+    let moved : IsMoved d n (ErasedBlock c.in-Ok-Erased.block) = moved_of_collect d n is (ErasedBlock c.in-Ok-Erased.block)
+    (subst (λ (m : Moved). IsCollected d.store m n.store) c.in-Ok-Erased.field-0-is (c.in-Ok-Erased.ensures.moved ready))
+    (subst (λ (m : Moved). Changes d.store.geometry d.store.luns d.store.units d.store.pages (as_collected m) n.store.pages) c.in-Ok-Erased.field-0-is (c.in-Ok-Erased.ensures.changes ready))
+    c.in-Ok-Erased.ensures.unit c.after_moved-self-inside-in-Ok-Erased.ensures in
     rw (c.new-in-Ok-Erased.ensures) (moved_stands d n (ErasedBlock c.in-Ok-Erased.block) [] first e moved (subst (λ (x : DeviceState). DeviceStands x first e) (sym c.self.view_is) at))
 
 pub returns-in-Ok-Erased-clause-entries : goal.returns-in-Ok-Erased-clause-entries
 returns-in-Ok-Erased-clause-entries g c = λ e stand.
     let s = c.self.inside in
     let d : DeviceState = record { store = s.store; shape = s.shape; regions = s.regions.items; lists = s.lists; tasks = s.tasks.items; held = s.held.items; counts = s.counts } in
-    let n : DeviceState = record { store = c.collect_step.new.self; shape = s.shape; regions = s.regions.items; lists = s.lists; tasks = s.tasks.items; held = s.held.items; counts = c.after_moved-self-inside-in-Ok-Erased.result } in
+    let n : DeviceState = record {
+      store = c.collect_step.new.self;
+      shape = s.shape;
+      regions = s.regions.items;
+      lists = s.lists;
+      tasks = s.tasks.items;
+      held = s.held.items;
+      counts = c.after_moved-self-inside-in-Ok-Erased.result;
+    } in
     let ready : d.store.phase ≡ Ready = sym c.phase.ensures.phase ∙ c.in-Ready.is in
     let is : IsCollecting d n = record { ready = ready; standing = c.phase.ensures.stands; same = c.collect_step.ensures.same; shape = refl; lists = refl; tasks = refl; held = refl } in
-    let moved : IsMoved d n (ErasedBlock c.in-Ok-Erased.block) = moved_of_collect d n is (ErasedBlock c.in-Ok-Erased.block) (subst (λ (m : Moved). IsCollected d.store m n.store) c.in-Ok-Erased.field-0-is (c.in-Ok-Erased.ensures.moved ready))
-    (subst (λ (m : Moved). Changes d.store.geometry d.store.luns d.store.units d.store.pages (as_collected m) n.store.pages) c.in-Ok-Erased.field-0-is (c.in-Ok-Erased.ensures.changes ready)) c.in-Ok-Erased.ensures.unit c.after_moved-self-inside-in-Ok-Erased.ensures in
+    let moved : IsMoved d n (ErasedBlock c.in-Ok-Erased.block) = moved_of_collect d n is (ErasedBlock c.in-Ok-Erased.block)
+    (subst (λ (m : Moved). IsCollected d.store m n.store) c.in-Ok-Erased.field-0-is (c.in-Ok-Erased.ensures.moved ready))
+    (subst (λ (m : Moved). Changes d.store.geometry d.store.luns d.store.units d.store.pages (as_collected m) n.store.pages) c.in-Ok-Erased.field-0-is (c.in-Ok-Erased.ensures.changes ready))
+    c.in-Ok-Erased.ensures.unit c.after_moved-self-inside-in-Ok-Erased.ensures in
     rw (c.new-in-Ok-Erased.ensures) (moved_entries d n (ErasedBlock c.in-Ok-Erased.block) [] e moved (subst (λ (x : DeviceState). EntriesStand x e) (sym c.self.view_is) stand))
 
 pub returns-in-Ok-Erased-clause-listings : goal.returns-in-Ok-Erased-clause-listings
 returns-in-Ok-Erased-clause-listings g c = λ had pages e stand.
     let s = c.self.inside in
     let d : DeviceState = record { store = s.store; shape = s.shape; regions = s.regions.items; lists = s.lists; tasks = s.tasks.items; held = s.held.items; counts = s.counts } in
-    let n : DeviceState = record { store = c.collect_step.new.self; shape = s.shape; regions = s.regions.items; lists = s.lists; tasks = s.tasks.items; held = s.held.items; counts = c.after_moved-self-inside-in-Ok-Erased.result } in
+    let n : DeviceState = record {
+      store = c.collect_step.new.self;
+      shape = s.shape;
+      regions = s.regions.items;
+      lists = s.lists;
+      tasks = s.tasks.items;
+      held = s.held.items;
+      counts = c.after_moved-self-inside-in-Ok-Erased.result;
+    } in
     let ready : d.store.phase ≡ Ready = sym c.phase.ensures.phase ∙ c.in-Ready.is in
     let is : IsCollecting d n = record { ready = ready; standing = c.phase.ensures.stands; same = c.collect_step.ensures.same; shape = refl; lists = refl; tasks = refl; held = refl } in
-    let moved : IsMoved d n (ErasedBlock c.in-Ok-Erased.block) = moved_of_collect d n is (ErasedBlock c.in-Ok-Erased.block) (subst (λ (m : Moved). IsCollected d.store m n.store) c.in-Ok-Erased.field-0-is (c.in-Ok-Erased.ensures.moved ready))
-    (subst (λ (m : Moved). Changes d.store.geometry d.store.luns d.store.units d.store.pages (as_collected m) n.store.pages) c.in-Ok-Erased.field-0-is (c.in-Ok-Erased.ensures.changes ready)) c.in-Ok-Erased.ensures.unit c.after_moved-self-inside-in-Ok-Erased.ensures in
+    let moved : IsMoved d n (ErasedBlock c.in-Ok-Erased.block) = moved_of_collect d n is (ErasedBlock c.in-Ok-Erased.block)
+    (subst (λ (m : Moved). IsCollected d.store m n.store) c.in-Ok-Erased.field-0-is (c.in-Ok-Erased.ensures.moved ready))
+    (subst (λ (m : Moved). Changes d.store.geometry d.store.luns d.store.units d.store.pages (as_collected m) n.store.pages) c.in-Ok-Erased.field-0-is (c.in-Ok-Erased.ensures.changes ready))
+    c.in-Ok-Erased.ensures.unit c.after_moved-self-inside-in-Ok-Erased.ensures in
     rw (c.new-in-Ok-Erased.ensures) (moved_listings d n (ErasedBlock c.in-Ok-Erased.block) [] had pages e moved (subst (λ (x : DeviceState). ListingStands had pages x e) (sym c.self.view_is) stand))
 
 pub returns-in-Err-clause-foreign : goal.returns-in-Err-clause-foreign
@@ -259,7 +362,15 @@ pub returns-in-Ok-Page-clause-over : goal.returns-in-Ok-Page-clause-over
 returns-in-Ok-Page-clause-over g c = λ is_ready given none.
     let s = c.self.inside in
     let d : DeviceState = record { store = s.store; shape = s.shape; regions = s.regions.items; lists = s.lists; tasks = s.tasks.items; held = s.held.items; counts = s.counts } in
-    let n : DeviceState = record { store = c.collect_step.new.self; shape = s.shape; regions = c.take_moved.new.machines.items; lists = s.lists; tasks = s.tasks.items; held = s.held.items; counts = c.after_moved-self-inside.result } in
+    let n : DeviceState = record {
+      store = c.collect_step.new.self;
+      shape = s.shape;
+      regions = c.take_moved.new.machines.items;
+      lists = s.lists;
+      tasks = s.tasks.items;
+      held = s.held.items;
+      counts = c.after_moved-self-inside.result;
+    } in
     let ready : d.store.phase ≡ Ready = sym c.phase.ensures.phase ∙ c.in-Ready.is in
     let is : IsCollecting d n = record { ready = ready; standing = c.phase.ensures.stands; same = c.collect_step.ensures.same; shape = refl; lists = refl; tasks = refl; held = refl } in
     collected_over d n is (MovedPage c.in-Ok-Page.lun c.in-Ok-Page.lba) (subst (λ (m : Moved). IsCollected d.store m n.store) c.in-Ok-Page.field-0-is (c.in-Ok-Page.ensures.moved ready)) none
@@ -268,7 +379,15 @@ pub returns-in-Ok-Erased-clause-over : goal.returns-in-Ok-Erased-clause-over
 returns-in-Ok-Erased-clause-over g c = λ is_ready given none.
     let s = c.self.inside in
     let d : DeviceState = record { store = s.store; shape = s.shape; regions = s.regions.items; lists = s.lists; tasks = s.tasks.items; held = s.held.items; counts = s.counts } in
-    let n : DeviceState = record { store = c.collect_step.new.self; shape = s.shape; regions = s.regions.items; lists = s.lists; tasks = s.tasks.items; held = s.held.items; counts = c.after_moved-self-inside-in-Ok-Erased.result } in
+    let n : DeviceState = record {
+      store = c.collect_step.new.self;
+      shape = s.shape;
+      regions = s.regions.items;
+      lists = s.lists;
+      tasks = s.tasks.items;
+      held = s.held.items;
+      counts = c.after_moved-self-inside-in-Ok-Erased.result;
+    } in
     let ready : d.store.phase ≡ Ready = sym c.phase.ensures.phase ∙ c.in-Ready.is in
     let is : IsCollecting d n = record { ready = ready; standing = c.phase.ensures.stands; same = c.collect_step.ensures.same; shape = refl; lists = refl; tasks = refl; held = refl } in
     collected_over d n is (ErasedBlock c.in-Ok-Erased.block) (subst (λ (m : Moved). IsCollected d.store m n.store) c.in-Ok-Erased.field-0-is (c.in-Ok-Erased.ensures.moved ready)) none
@@ -299,7 +418,15 @@ pub returns-in-Ok-Erased-clause-hints : goal.returns-in-Ok-Erased-clause-hints
 returns-in-Ok-Erased-clause-hints g c = λ e stand.
     let s = c.self.inside in
     let d : DeviceState = record { store = s.store; shape = s.shape; regions = s.regions.items; lists = s.lists; tasks = s.tasks.items; held = s.held.items; counts = s.counts } in
-    let n : DeviceState = record { store = c.collect_step.new.self; shape = s.shape; regions = s.regions.items; lists = s.lists; tasks = s.tasks.items; held = s.held.items; counts = c.after_moved-self-inside-in-Ok-Erased.result } in
+    let n : DeviceState = record {
+      store = c.collect_step.new.self;
+      shape = s.shape;
+      regions = s.regions.items;
+      lists = s.lists;
+      tasks = s.tasks.items;
+      held = s.held.items;
+      counts = c.after_moved-self-inside-in-Ok-Erased.result;
+    } in
     let ready : d.store.phase ≡ Ready = sym c.phase.ensures.phase ∙ c.in-Ready.is in
     let is = c.collect_step.ensures.same in
     let sizes = sizes_same d n (record { geometry = is.geometry; luns = is.luns; units = is.units }) refl in
@@ -321,14 +448,24 @@ pub returns-in-Ok-Page-clause-hints : goal.returns-in-Ok-Page-clause-hints
 returns-in-Ok-Page-clause-hints g c = λ e stand.
     let s = c.self.inside in
     let d : DeviceState = record { store = s.store; shape = s.shape; regions = s.regions.items; lists = s.lists; tasks = s.tasks.items; held = s.held.items; counts = s.counts } in
-    let n : DeviceState = record { store = c.collect_step.new.self; shape = s.shape; regions = c.take_moved.new.machines.items; lists = s.lists; tasks = s.tasks.items; held = s.held.items; counts = c.after_moved-self-inside.result } in
+    let n : DeviceState = record {
+      store = c.collect_step.new.self;
+      shape = s.shape;
+      regions = c.take_moved.new.machines.items;
+      lists = s.lists;
+      tasks = s.tasks.items;
+      held = s.held.items;
+      counts = c.after_moved-self-inside.result;
+    } in
     let ready : d.store.phase ≡ Ready = sym c.phase.ensures.phase ∙ c.in-Ready.is in
     let is = c.collect_step.ensures.same in
     let sizes = sizes_same d n (record { geometry = is.geometry; luns = is.luns; units = is.units }) refl in
     let here : HintsStand d e = subst (λ (x : DeviceState). HintsStand x e) (sym c.self.view_is) stand in
-    let changes = subst (λ (m : Moved). Changes d.store.geometry d.store.luns d.store.units d.store.pages (as_collected m) n.store.pages) c.in-Ok-Page.field-0-is (c.in-Ok-Page.ensures.changes ready) in
+    let changes = subst (λ (m : Moved). Changes d.store.geometry d.store.luns d.store.units d.store.pages (as_collected m) n.store.pages) c.in-Ok-Page.field-0-is
+    (c.in-Ok-Page.ensures.changes ready) in
     let count = count_of s.shape s.luns s.regions.items c.self.invariant.shapes in
-    rw (c.new-in-Ok-Page.ensures) (hints_moved d n c.in-Ok-Page.lun c.in-Ok-Page.lba e (omega (arith, changes.place.lun, count, c.self.invariant.luns_served)) (c.take_moved.ensures.regions s.shape) refl sizes here)
+    rw (c.new-in-Ok-Page.ensures) (hints_moved d n c.in-Ok-Page.lun c.in-Ok-Page.lba e (omega (arith, changes.place.lun, count, c.self.invariant.luns_served)) (c.take_moved.ensures.regions s.shape)
+    refl sizes here)
 
 pub returns-in-Ok-Idle-clause-fetched : goal.returns-in-Ok-Idle-clause-fetched
 returns-in-Ok-Idle-clause-fetched g c = λ e stand.
@@ -354,7 +491,15 @@ pub returns-in-Ok-Erased-clause-fetched : goal.returns-in-Ok-Erased-clause-fetch
 returns-in-Ok-Erased-clause-fetched g c = λ e stand.
     let s = c.self.inside in
     let d : DeviceState = record { store = s.store; shape = s.shape; regions = s.regions.items; lists = s.lists; tasks = s.tasks.items; held = s.held.items; counts = s.counts } in
-    let n : DeviceState = record { store = c.collect_step.new.self; shape = s.shape; regions = s.regions.items; lists = s.lists; tasks = s.tasks.items; held = s.held.items; counts = c.after_moved-self-inside-in-Ok-Erased.result } in
+    let n : DeviceState = record {
+      store = c.collect_step.new.self;
+      shape = s.shape;
+      regions = s.regions.items;
+      lists = s.lists;
+      tasks = s.tasks.items;
+      held = s.held.items;
+      counts = c.after_moved-self-inside-in-Ok-Erased.result;
+    } in
     let ready : d.store.phase ≡ Ready = sym c.phase.ensures.phase ∙ c.in-Ready.is in
     let is : IsCollecting d n = record { ready = ready; standing = c.phase.ensures.stands; same = c.collect_step.ensures.same; shape = refl; lists = refl; tasks = refl; held = refl } in
     let here : ListsStand d e = subst (λ (x : DeviceState). ListsStand x e) (sym c.self.view_is) stand in
@@ -374,7 +519,15 @@ pub returns-in-Ok-Page-clause-fetched : goal.returns-in-Ok-Page-clause-fetched
 returns-in-Ok-Page-clause-fetched g c = λ e stand.
     let s = c.self.inside in
     let d : DeviceState = record { store = s.store; shape = s.shape; regions = s.regions.items; lists = s.lists; tasks = s.tasks.items; held = s.held.items; counts = s.counts } in
-    let n : DeviceState = record { store = c.collect_step.new.self; shape = s.shape; regions = c.take_moved.new.machines.items; lists = s.lists; tasks = s.tasks.items; held = s.held.items; counts = c.after_moved-self-inside.result } in
+    let n : DeviceState = record {
+      store = c.collect_step.new.self;
+      shape = s.shape;
+      regions = c.take_moved.new.machines.items;
+      lists = s.lists;
+      tasks = s.tasks.items;
+      held = s.held.items;
+      counts = c.after_moved-self-inside.result;
+    } in
     let ready : d.store.phase ≡ Ready = sym c.phase.ensures.phase ∙ c.in-Ready.is in
     let is : IsCollecting d n = record { ready = ready; standing = c.phase.ensures.stands; same = c.collect_step.ensures.same; shape = refl; lists = refl; tasks = refl; held = refl } in
     let here : ListsStand d e = subst (λ (x : DeviceState). ListsStand x e) (sym c.self.view_is) stand in
@@ -384,7 +537,8 @@ pub take_moved-requires : goal.take_moved-requires
 take_moved-requires g c =
     let s = c.self.inside in
     let ready : s.store.phase ≡ Ready = sym c.phase.ensures.phase ∙ c.in-Ready.is in
-    let changes = subst (λ (m : Moved). Changes s.store.geometry s.store.luns s.store.units s.store.pages (as_collected m) c.collect_step.new.self.pages) c.in-Ok-Page.field-0-is (c.in-Ok-Page.ensures.changes ready) in (
+    let changes = subst (λ (m : Moved). Changes s.store.geometry s.store.luns s.store.units s.store.pages (as_collected m) c.collect_step.new.self.pages) c.in-Ok-Page.field-0-is
+    (c.in-Ok-Page.ensures.changes ready) in (
       s.shape,
       s.luns,
       record { limits = c.self.invariant.limits; shapes = c.self.invariant.shapes },
@@ -395,7 +549,15 @@ pub returns-in-Ok-Page-clause-counted : goal.returns-in-Ok-Page-clause-counted
 returns-in-Ok-Page-clause-counted g c = λ e stand.
     let s = c.self.inside in
     let d : DeviceState = record { store = s.store; shape = s.shape; regions = s.regions.items; lists = s.lists; tasks = s.tasks.items; held = s.held.items; counts = s.counts } in
-    let n : DeviceState = record { store = c.collect_step.new.self; shape = s.shape; regions = c.take_moved.new.machines.items; lists = s.lists; tasks = s.tasks.items; held = s.held.items; counts = c.after_moved-self-inside.result } in
+    let n : DeviceState = record {
+      store = c.collect_step.new.self;
+      shape = s.shape;
+      regions = c.take_moved.new.machines.items;
+      lists = s.lists;
+      tasks = s.tasks.items;
+      held = s.held.items;
+      counts = c.after_moved-self-inside.result;
+    } in
     let ready : d.store.phase ≡ Ready = sym c.phase.ensures.phase ∙ c.in-Ready.is in
     let is : IsCollecting d n = record { ready = ready; standing = c.phase.ensures.stands; same = c.collect_step.ensures.same; shape = refl; lists = refl; tasks = refl; held = refl } in
     let here : CountsStand d e = subst (λ (x : DeviceState). CountsStand x e) (sym c.self.view_is) stand in
@@ -406,7 +568,15 @@ pub returns-in-Ok-Erased-clause-counted : goal.returns-in-Ok-Erased-clause-count
 returns-in-Ok-Erased-clause-counted g c = λ e stand.
     let s = c.self.inside in
     let d : DeviceState = record { store = s.store; shape = s.shape; regions = s.regions.items; lists = s.lists; tasks = s.tasks.items; held = s.held.items; counts = s.counts } in
-    let n : DeviceState = record { store = c.collect_step.new.self; shape = s.shape; regions = s.regions.items; lists = s.lists; tasks = s.tasks.items; held = s.held.items; counts = c.after_moved-self-inside-in-Ok-Erased.result } in
+    let n : DeviceState = record {
+      store = c.collect_step.new.self;
+      shape = s.shape;
+      regions = s.regions.items;
+      lists = s.lists;
+      tasks = s.tasks.items;
+      held = s.held.items;
+      counts = c.after_moved-self-inside-in-Ok-Erased.result;
+    } in
     let ready : d.store.phase ≡ Ready = sym c.phase.ensures.phase ∙ c.in-Ready.is in
     let is : IsCollecting d n = record { ready = ready; standing = c.phase.ensures.stands; same = c.collect_step.ensures.same; shape = refl; lists = refl; tasks = refl; held = refl } in
     let here : CountsStand d e = subst (λ (x : DeviceState). CountsStand x e) (sym c.self.view_is) stand in

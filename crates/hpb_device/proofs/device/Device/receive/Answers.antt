@@ -35,7 +35,9 @@ use Rattle.hpb_device.proofs.StepStands.{sizes_same}
 use Rattle.flat_unit.specs.declared.event.Event.TheVariants.{Host, Device}
 use Rattle.flat_unit.specs.History.{◌▹◌}
 use Rattle.hpb_device.proofs.Left.{ended_left, keeps_left, wait_most}
-use Rattle.hpb_device.proofs.ReceiveStands.{queue_more, waiting_all, waits_begun, stands_kept, stands_with_data, stands_with_reply, stands_without_head, owes_events, owes_nothing, no_effects, device_is, follows_at, stands_same, answers_same}
+use Rattle.hpb_device.proofs.ReceiveStands.{queue_more, waiting_all, waits_begun, stands_kept, stands_with_data}
+use Rattle.hpb_device.proofs.ReceiveStands.{stands_with_reply, stands_without_head, owes_events, owes_nothing}
+use Rattle.hpb_device.proofs.ReceiveStands.{no_effects, device_is, follows_at, stands_same, answers_same}
 use Rattle.hpb_device.specs.Limits.{limits_of}
 use Rattle.hpb_device.proofs.device.Device.receive.Given.{Over}
 use Rattle.hpb_device.proofs.device.Device.receive.Goals.{After-put_reply-in-End}
@@ -67,7 +69,8 @@ returns-in-Keep-clause-stands g c = λ first e at.
     let d : DeviceState = record { store = s.store; shape = s.shape; regions = s.regions.items; lists = s.lists; tasks = s.tasks.items; held = s.held.items; counts = s.counts } in
     let lent : c.deref.result.now ≡ d.tasks = search rules in
     let before : DeviceStands d first e = subst (λ (x : DeviceState). DeviceStands x first e) (sym c.self.view_is) at in
-    let kept = follows_at d c.limits_of-limits.result s.luns c.deref.result.now c.args.bytes.now (Keep c.in-Keep.task) c.limits_of-limits.ensures c.self.invariant.luns_served lent c.in-Keep.ensures.follows in
+    let kept = follows_at d c.limits_of-limits.result s.luns c.deref.result.now c.args.bytes.now (Keep c.in-Keep.task) c.limits_of-limits.ensures c.self.invariant.luns_served lent
+    c.in-Keep.ensures.follows in
     let queue : IsQueue s.luns c.limits_of-limits.result d.held d.tasks = subst (λ (lim : Limits). IsQueue s.luns lim d.held d.tasks) (sym c.limits_of-limits.ensures) c.self.invariant.queue in
     let now = stands_kept d c.in-Keep.task c.args.bytes.now c.limits_of-limits.result s.luns first e queue c.in-Keep.ensures.verdict.1 kept before in
     rw c.push.ensures.items now
@@ -78,7 +81,8 @@ returns-in-Keep-clause-foreign g c = λ chip first e at.
     let d : DeviceState = record { store = s.store; shape = s.shape; regions = s.regions.items; lists = s.lists; tasks = s.tasks.items; held = s.held.items; counts = s.counts } in
     let lent : c.deref.result.now ≡ d.tasks = search rules in
     let before : DeviceStandsForeign d chip first e = subst (λ (x : DeviceState). DeviceStandsForeign x chip first e) (sym c.self.view_is) at in
-    let kept = follows_at d c.limits_of-limits.result s.luns c.deref.result.now c.args.bytes.now (Keep c.in-Keep.task) c.limits_of-limits.ensures c.self.invariant.luns_served lent c.in-Keep.ensures.follows in
+    let kept = follows_at d c.limits_of-limits.result s.luns c.deref.result.now c.args.bytes.now (Keep c.in-Keep.task) c.limits_of-limits.ensures c.self.invariant.luns_served lent
+    c.in-Keep.ensures.follows in
     let queue : IsQueue s.luns c.limits_of-limits.result d.held d.tasks = subst (λ (lim : Limits). IsQueue s.luns lim d.held d.tasks) (sym c.limits_of-limits.ensures) c.self.invariant.queue in
     let now = foreign_with_task d c.in-Keep.task c.args.bytes.now c.limits_of-limits.result s.luns chip first e queue c.in-Keep.ensures.verdict.1 kept before in
     rw c.push.ensures.items now
@@ -97,7 +101,8 @@ returns-in-Data-clause-stands g c = λ first e at.
     let lent : c.deref.result.now ≡ d.tasks = search rules in
     let segment = c.in-Data.segment.now in
     let before : DeviceStands d first e = subst (λ (x : DeviceState). DeviceStands x first e) (sym c.self.view_is) at in
-    let taken = follows_at d c.limits_of-limits.result s.luns c.deref.result.now c.args.bytes.now (Data c.in-Data.segment) c.limits_of-limits.ensures c.self.invariant.luns_served lent c.in-Data.ensures.follows in
+    let taken = follows_at d c.limits_of-limits.result s.luns c.deref.result.now c.args.bytes.now (Data c.in-Data.segment) c.limits_of-limits.ensures c.self.invariant.luns_served lent
+    c.in-Data.ensures.follows in
     let data_taken : TakesData c.args.self.now c.take_data.new.self segment = c.take_data.ensures.taken in
     let task = data_taken.task in
     let others = data_taken.others in
@@ -106,7 +111,8 @@ returns-in-Data-clause-stands g c = λ first e at.
     let now = stands_with_data d task others c.args.bytes.now segment first e is queue.1.part taken before in
     let same = device_is d c.take_data.new.self (record task { come = task.come + length segment } ∷ others) (d.held ++ segment)
     (c.take_data.ensures.store ∙ ap (λ (x : DeviceState). x.store) (sym c.self.view_is)) (c.take_data.ensures.shape ∙ ap (λ (x : DeviceState). x.shape) (sym c.self.view_is))
-    (c.take_data.ensures.regions ∙ ap (λ (x : DeviceState). x.regions) (sym c.self.view_is)) (c.take_data.ensures.lists ∙ ap (λ (x : DeviceState). x.lists) (sym c.self.view_is)) data_taken.kept (data_taken.held ∙ ap (λ (x : DeviceState). x.held ++ segment) (sym c.self.view_is))
+    (c.take_data.ensures.regions ∙ ap (λ (x : DeviceState). x.regions) (sym c.self.view_is)) (c.take_data.ensures.lists ∙ ap (λ (x : DeviceState). x.lists) (sym c.self.view_is)) data_taken.kept
+    (data_taken.held ∙ ap (λ (x : DeviceState). x.held ++ segment) (sym c.self.view_is))
     (c.take_data.ensures.counts ∙ ap (λ (x : DeviceState). x.counts) (sym c.self.view_is)) in
     stands_same _ _ _ _ same now
 
@@ -117,7 +123,8 @@ returns-in-Data-clause-foreign g c = λ chip first e at.
     let lent : c.deref.result.now ≡ d.tasks = search rules in
     let segment = c.in-Data.segment.now in
     let before : DeviceStandsForeign d chip first e = subst (λ (x : DeviceState). DeviceStandsForeign x chip first e) (sym c.self.view_is) at in
-    let taken = follows_at d c.limits_of-limits.result s.luns c.deref.result.now c.args.bytes.now (Data c.in-Data.segment) c.limits_of-limits.ensures c.self.invariant.luns_served lent c.in-Data.ensures.follows in
+    let taken = follows_at d c.limits_of-limits.result s.luns c.deref.result.now c.args.bytes.now (Data c.in-Data.segment) c.limits_of-limits.ensures c.self.invariant.luns_served lent
+    c.in-Data.ensures.follows in
     let data_taken : TakesData c.args.self.now c.take_data.new.self segment = c.take_data.ensures.taken in
     let task = data_taken.task in
     let others = data_taken.others in
@@ -126,7 +133,8 @@ returns-in-Data-clause-foreign g c = λ chip first e at.
     let now = foreign_with_data d task others c.args.bytes.now segment chip first e is queue.1.part taken before in
     let same = device_is d c.take_data.new.self (record task { come = task.come + length segment } ∷ others) (d.held ++ segment)
     (c.take_data.ensures.store ∙ ap (λ (x : DeviceState). x.store) (sym c.self.view_is)) (c.take_data.ensures.shape ∙ ap (λ (x : DeviceState). x.shape) (sym c.self.view_is))
-    (c.take_data.ensures.regions ∙ ap (λ (x : DeviceState). x.regions) (sym c.self.view_is)) (c.take_data.ensures.lists ∙ ap (λ (x : DeviceState). x.lists) (sym c.self.view_is)) data_taken.kept (data_taken.held ∙ ap (λ (x : DeviceState). x.held ++ segment) (sym c.self.view_is))
+    (c.take_data.ensures.regions ∙ ap (λ (x : DeviceState). x.regions) (sym c.self.view_is)) (c.take_data.ensures.lists ∙ ap (λ (x : DeviceState). x.lists) (sym c.self.view_is)) data_taken.kept
+    (data_taken.held ∙ ap (λ (x : DeviceState). x.held ++ segment) (sym c.self.view_is))
     (c.take_data.ensures.counts ∙ ap (λ (x : DeviceState). x.counts) (sym c.self.view_is)) in
     foreign_same _ _ _ _ _ same now
 
@@ -136,7 +144,8 @@ returns-in-Answer-clause-stands g c = λ first e at.
     let d : DeviceState = record { store = s.store; shape = s.shape; regions = s.regions.items; lists = s.lists; tasks = s.tasks.items; held = s.held.items; counts = s.counts } in
     let lent : c.deref.result.now ≡ d.tasks = search rules in
     let before : DeviceStands d first e = subst (λ (x : DeviceState). DeviceStands x first e) (sym c.self.view_is) at in
-    let answered = follows_at d c.limits_of-limits.result s.luns c.deref.result.now c.args.bytes.now (Answer c.in-Answer.reply) c.limits_of-limits.ensures c.self.invariant.luns_served lent c.in-Answer.ensures.follows in
+    let answered = follows_at d c.limits_of-limits.result s.luns c.deref.result.now c.args.bytes.now (Answer c.in-Answer.reply) c.limits_of-limits.ensures c.self.invariant.luns_served lent
+    c.in-Answer.ensures.follows in
     let now = stands_with_reply d c.args.bytes.now c.in-Answer.reply c.put_reply.new.out first e c.put_reply.ensures answered before in
     stands_same _ _ _ _ c.self.view_is now
 
@@ -146,7 +155,8 @@ returns-in-Answer-clause-foreign g c = λ chip first e at.
     let d : DeviceState = record { store = s.store; shape = s.shape; regions = s.regions.items; lists = s.lists; tasks = s.tasks.items; held = s.held.items; counts = s.counts } in
     let lent : c.deref.result.now ≡ d.tasks = search rules in
     let before : DeviceStandsForeign d chip first e = subst (λ (x : DeviceState). DeviceStandsForeign x chip first e) (sym c.self.view_is) at in
-    let answered = follows_at d c.limits_of-limits.result s.luns c.deref.result.now c.args.bytes.now (Answer c.in-Answer.reply) c.limits_of-limits.ensures c.self.invariant.luns_served lent c.in-Answer.ensures.follows in
+    let answered = follows_at d c.limits_of-limits.result s.luns c.deref.result.now c.args.bytes.now (Answer c.in-Answer.reply) c.limits_of-limits.ensures c.self.invariant.luns_served lent
+    c.in-Answer.ensures.follows in
     let now = foreign_with_reply d c.args.bytes.now c.in-Answer.reply c.put_reply.new.out chip first e c.put_reply.ensures answered before in
     foreign_same _ _ _ _ _ c.self.view_is now
 
@@ -156,8 +166,10 @@ returns-in-Answer-clause-answers g c = λ tasks keeps.
     let d : DeviceState = record { store = s.store; shape = s.shape; regions = s.regions.items; lists = s.lists; tasks = s.tasks.items; held = s.held.items; counts = s.counts } in
     let lent : c.deref.result.now ≡ d.tasks = search rules in
     let before : KeepsTasks d.tasks d.held tasks = subst (λ (x : DeviceState). KeepsTasks x.tasks x.held tasks) (sym c.self.view_is) keeps in
-    let answered = follows_at d c.limits_of-limits.result s.luns c.deref.result.now c.args.bytes.now (Answer c.in-Answer.reply) c.limits_of-limits.ensures c.self.invariant.luns_served lent c.in-Answer.ensures.follows tasks before in
-    let now = owes_events (sizes_of d) tasks c.args.bytes.now (reply_upiu c.in-Answer.reply) c.put_reply.new.out answered.answers (no_effects d.store.luns (limits_of d.shape) d.store.geometry tasks c.args.bytes.now) c.put_reply.ensures in
+    let answered = follows_at d c.limits_of-limits.result s.luns c.deref.result.now c.args.bytes.now (Answer c.in-Answer.reply) c.limits_of-limits.ensures c.self.invariant.luns_served lent
+    c.in-Answer.ensures.follows tasks before in
+    let now = owes_events (sizes_of d) tasks c.args.bytes.now (reply_upiu c.in-Answer.reply) c.put_reply.new.out answered.answers
+    (no_effects d.store.luns (limits_of d.shape) d.store.geometry tasks c.args.bytes.now) c.put_reply.ensures in
     answers_same _ _ _ _ _ c.self.view_is now
 
 pub returns-in-Keep-clause-receives : goal.returns-in-Keep-clause-receives
@@ -174,12 +186,27 @@ returns-in-Keep-clause-receives g c =
     let now : DeviceState = record { store = s.store; shape = s.shape; regions = s.regions.items; lists = s.lists; tasks = c.push.new.self.items; held = s.held.items; counts = s.counts } in
     let left : steps_left now ≤ steps_left d + bound (sizes_of d) task.command =
     subst (λ (ts : List Task). steps_left (record d { tasks = ts }) ≤ steps_left d + bound (sizes_of d) task.command) (sym pushed) (keeps_left d task some) in
-    let keeps : Keeps d now c.args.bytes.now = record { task = task; room = subst (λ (ts : List Task). length ts < 32) lent c.in-Keep.ensures.verdict.0; begun = begun; kept = pushed; held = refl; left = left } in
+    let keeps : Keeps d now c.args.bytes.now = record {
+      task = task;
+      room = subst (λ (ts : List Task). length ts < 32) lent c.in-Keep.ensures.verdict.0;
+      begun = begun;
+      kept = pushed;
+      held = refl;
+      left = left;
+    } in
     inl (subst (λ (x : DeviceState). Keeps x now c.args.bytes.now) c.self.view_is keeps)
 
 -- the device without its head
 abbrev now_of : (g : Over) → After-put_reply-in-End g → DeviceState
-now_of g c = let s = c.self.inside in record { store = s.store; shape = s.shape; regions = s.regions.items; lists = s.lists; tasks = c.end_head.new.tasks.items; held = c.end_head.new.held.items; counts = s.counts }
+now_of g c = let s = c.self.inside in record {
+  store = s.store;
+  shape = s.shape;
+  regions = s.regions.items;
+  lists = s.lists;
+  tasks = c.end_head.new.tasks.items;
+  held = c.end_head.new.held.items;
+  counts = s.counts;
+}
 
 -- the head has ended
 ends_it : (g : Over) (c : After-put_reply-in-End g) → EndsHead c.args.self.now (now_of g c) c.put_reply-in-End.new.out
@@ -219,7 +246,8 @@ returns-in-End-clause-stands g c = λ first e at.
     let queue = subst (IsQueue s.luns (limits_of s.shape) d.held) ended.2 c.self.invariant.queue in
     let answers : (tasks : List Waiting) → KeepsTasks d.tasks d.held tasks
     → reply_of (sizes_of d) true tasks c.args.bytes.now ≡ Some (reply_upiu (Check ended.0.lun ended.0.tag ended.4.0 DataNotAsked)) =
-    λ tasks keeps. follows_at d c.limits_of-limits.result s.luns c.deref.result.now c.args.bytes.now (End c.in-End.reply) c.limits_of-limits.ensures c.self.invariant.luns_served lent c.in-End.ensures.follows tasks keeps
+    λ tasks keeps. follows_at d c.limits_of-limits.result s.luns c.deref.result.now c.args.bytes.now (End c.in-End.reply) c.limits_of-limits.ensures c.self.invariant.luns_served lent
+    c.in-End.ensures.follows tasks keeps
     ∙ ap (λ (r : Reply). Some (reply_upiu r)) ended.4.2 in
     let sent = c.put_reply-in-End.ensures ∙ ap (λ (r : Reply). upiu_out (reply_upiu r)) ended.4.2 in
     let gone : c.end_head.new.tasks.items ≡ ended.1 = c.end_head.ensures.tasks ∙ ap (drop 1) ended.2 in
@@ -236,7 +264,8 @@ returns-in-End-clause-foreign g c = λ chip first e at.
     let queue = subst (IsQueue s.luns (limits_of s.shape) d.held) ended.2 c.self.invariant.queue in
     let answers : (tasks : List Waiting) → KeepsTasks d.tasks d.held tasks
     → reply_of (sizes_of d) true tasks c.args.bytes.now ≡ Some (reply_upiu (Check ended.0.lun ended.0.tag ended.4.0 DataNotAsked)) =
-    λ tasks keeps. follows_at d c.limits_of-limits.result s.luns c.deref.result.now c.args.bytes.now (End c.in-End.reply) c.limits_of-limits.ensures c.self.invariant.luns_served lent c.in-End.ensures.follows tasks keeps
+    λ tasks keeps. follows_at d c.limits_of-limits.result s.luns c.deref.result.now c.args.bytes.now (End c.in-End.reply) c.limits_of-limits.ensures c.self.invariant.luns_served lent
+    c.in-End.ensures.follows tasks keeps
     ∙ ap (λ (r : Reply). Some (reply_upiu r)) ended.4.2 in
     let sent = c.put_reply-in-End.ensures ∙ ap (λ (r : Reply). upiu_out (reply_upiu r)) ended.4.2 in
     let gone : c.end_head.new.tasks.items ≡ ended.1 = c.end_head.ensures.tasks ∙ ap (drop 1) ended.2 in
@@ -249,8 +278,10 @@ returns-in-End-clause-answers g c = λ tasks keeps.
     let d : DeviceState = record { store = s.store; shape = s.shape; regions = s.regions.items; lists = s.lists; tasks = s.tasks.items; held = s.held.items; counts = s.counts } in
     let lent : c.deref.result.now ≡ d.tasks = search rules in
     let before : KeepsTasks d.tasks d.held tasks = subst (λ (x : DeviceState). KeepsTasks x.tasks x.held tasks) (sym c.self.view_is) keeps in
-    let answers = follows_at d c.limits_of-limits.result s.luns c.deref.result.now c.args.bytes.now (End c.in-End.reply) c.limits_of-limits.ensures c.self.invariant.luns_served lent c.in-End.ensures.follows tasks before in
-    let now = owes_events (sizes_of d) tasks c.args.bytes.now (reply_upiu c.in-End.reply) c.put_reply-in-End.new.out answers (no_effects d.store.luns (limits_of d.shape) d.store.geometry tasks c.args.bytes.now) c.put_reply-in-End.ensures in
+    let answers = follows_at d c.limits_of-limits.result s.luns c.deref.result.now c.args.bytes.now (End c.in-End.reply) c.limits_of-limits.ensures c.self.invariant.luns_served lent
+    c.in-End.ensures.follows tasks before in
+    let now = owes_events (sizes_of d) tasks c.args.bytes.now (reply_upiu c.in-End.reply) c.put_reply-in-End.new.out answers
+    (no_effects d.store.luns (limits_of d.shape) d.store.geometry tasks c.args.bytes.now) c.put_reply-in-End.ensures in
     answers_same _ _ _ _ _ c.self.view_is now
 
 pub returns-in-Answer-clause-entries : goal.returns-in-Answer-clause-entries
@@ -259,7 +290,8 @@ returns-in-Answer-clause-entries g c = λ e stand. answered_entries c.args.self.
 pub returns-in-End-clause-entries : goal.returns-in-End-clause-entries
 returns-in-End-clause-entries g c = λ e stand.
     let d = c.args.self.now in
-    let queue : IsQueue c.self.inside.luns (limits_of d.shape) d.held d.tasks = subst (λ (x : DeviceState). IsQueue c.self.inside.luns (limits_of x.shape) x.held x.tasks) c.self.view_is c.self.invariant.queue in
+    let queue : IsQueue c.self.inside.luns (limits_of d.shape) d.held d.tasks = subst (λ (x : DeviceState). IsQueue c.self.inside.luns (limits_of x.shape) x.held x.tasks) c.self.view_is
+    c.self.invariant.queue in
     let store = ap (λ (x : DeviceState). x.store) c.self.view_is in
     let shape = ap (λ (x : DeviceState). x.shape) c.self.view_is in
     ending_entries d (now_of g c) c.self.inside.luns (limits_of d.shape) c.args.bytes.now c.in-End.reply c.put_reply-in-End.new.out e queue (ends_it g c) c.put_reply-in-End.ensures store shape stand
@@ -276,7 +308,8 @@ returns-in-Answer-clause-listings g c = λ had pages first e at stand.
     let d : DeviceState = record { store = s.store; shape = s.shape; regions = s.regions.items; lists = s.lists; tasks = s.tasks.items; held = s.held.items; counts = s.counts } in
     let lent : c.deref.result.now ≡ d.tasks = search rules in
     let before : DeviceStands d first e = subst (λ (x : DeviceState). DeviceStands x first e) (sym c.self.view_is) at in
-    let answered = follows_at d c.limits_of-limits.result s.luns c.deref.result.now c.args.bytes.now (Answer c.in-Answer.reply) c.limits_of-limits.ensures c.self.invariant.luns_served lent c.in-Answer.ensures.follows in
+    let answered = follows_at d c.limits_of-limits.result s.luns c.deref.result.now c.args.bytes.now (Answer c.in-Answer.reply) c.limits_of-limits.ensures c.self.invariant.luns_served lent
+    c.in-Answer.ensures.follows in
     let now = answered_listings had pages d c.args.bytes.now c.in-Answer.reply c.put_reply.new.out first e answered c.put_reply.ensures before
     (subst (λ (x : DeviceState). ListingStands had pages x e) (sym c.self.view_is) stand) in
     subst (λ (x : DeviceState). ListingStands had pages x (e ▹ Host c.args.bytes.now ▹ Device c.put_reply.new.out)) c.self.view_is now
@@ -284,7 +317,8 @@ returns-in-Answer-clause-listings g c = λ had pages first e at stand.
 pub returns-in-End-clause-listings : goal.returns-in-End-clause-listings
 returns-in-End-clause-listings g c = λ had pages first e at stand.
     let d = c.args.self.now in
-    let queue : IsQueue c.self.inside.luns (limits_of d.shape) d.held d.tasks = subst (λ (x : DeviceState). IsQueue c.self.inside.luns (limits_of x.shape) x.held x.tasks) c.self.view_is c.self.invariant.queue in
+    let queue : IsQueue c.self.inside.luns (limits_of d.shape) d.held d.tasks = subst (λ (x : DeviceState). IsQueue c.self.inside.luns (limits_of x.shape) x.held x.tasks) c.self.view_is
+    c.self.invariant.queue in
     let store = ap (λ (x : DeviceState). x.store) c.self.view_is in
     let shape = ap (λ (x : DeviceState). x.shape) c.self.view_is in
     ending_listings had pages d (now_of g c) c.self.inside.luns (limits_of d.shape) c.args.bytes.now c.put_reply-in-End.new.out e queue (ends_it g c) store shape stand
@@ -312,7 +346,8 @@ returns-in-Keep-clause-hints g c = λ e keeps stand.
     let answers : (tasks : List Waiting) → KeepsTasks c.args.self.now.tasks c.args.self.now.held tasks → answers_to (sizes_of c.args.self.now) true tasks c.args.bytes.now ≡ [] =
     λ tasks keeps_tasks.
     let before : KeepsTasks d.tasks d.held tasks = subst (λ (x : DeviceState). KeepsTasks x.tasks x.held tasks) (sym c.self.view_is) keeps_tasks in
-    let kept = follows_at d c.limits_of-limits.result s.luns c.deref.result.now c.args.bytes.now (Keep c.in-Keep.task) c.limits_of-limits.ensures c.self.invariant.luns_served lent c.in-Keep.ensures.follows tasks before in
+    let kept = follows_at d c.limits_of-limits.result s.luns c.deref.result.now c.args.bytes.now (Keep c.in-Keep.task) c.limits_of-limits.ensures c.self.invariant.luns_served lent
+    c.in-Keep.ensures.follows tasks before in
     answers_same _ _ _ _ _ c.self.view_is (owes_nothing (sizes_of d) tasks c.args.bytes.now kept.silent) in
     let is = c.self.view_is in
     hints_still c.args.self.now _ (e ▹ Host c.args.bytes.now) (ap (λ (x : DeviceState). x.store) is) (ap (λ (x : DeviceState). x.shape) is) (ap (λ (x : DeviceState). x.regions) is)
@@ -326,7 +361,8 @@ returns-in-Data-clause-hints g c = λ e keeps stand.
     let answers : (tasks : List Waiting) → KeepsTasks c.args.self.now.tasks c.args.self.now.held tasks → answers_to (sizes_of c.args.self.now) true tasks c.args.bytes.now ≡ [] =
     λ tasks keeps_tasks.
     let before : KeepsTasks d.tasks d.held tasks = subst (λ (x : DeviceState). KeepsTasks x.tasks x.held tasks) (sym c.self.view_is) keeps_tasks in
-    let kept = follows_at d c.limits_of-limits.result s.luns c.deref.result.now c.args.bytes.now (Data c.in-Data.segment) c.limits_of-limits.ensures c.self.invariant.luns_served lent c.in-Data.ensures.follows tasks before in
+    let kept = follows_at d c.limits_of-limits.result s.luns c.deref.result.now c.args.bytes.now (Data c.in-Data.segment) c.limits_of-limits.ensures c.self.invariant.luns_served lent
+    c.in-Data.ensures.follows tasks before in
     answers_same _ _ _ _ _ c.self.view_is (owes_nothing (sizes_of d) tasks c.args.bytes.now kept.silent) in
     hints_still c.args.self.now c.take_data.new.self (e ▹ Host c.args.bytes.now) c.take_data.ensures.store c.take_data.ensures.shape c.take_data.ensures.regions
     (answered_hints c.args.self.now c.args.bytes.now Nothing [] e keeps answers stand)
@@ -350,7 +386,8 @@ returns-in-Keep-clause-fetched g c = λ e keeps stand.
     let answers : (tasks : List Waiting) → KeepsTasks c.args.self.now.tasks c.args.self.now.held tasks → answers_to (sizes_of c.args.self.now) true tasks c.args.bytes.now ≡ [] =
     λ tasks keeps_tasks.
     let before : KeepsTasks d.tasks d.held tasks = subst (λ (x : DeviceState). KeepsTasks x.tasks x.held tasks) (sym c.self.view_is) keeps_tasks in
-    let kept = follows_at d c.limits_of-limits.result s.luns c.deref.result.now c.args.bytes.now (Keep c.in-Keep.task) c.limits_of-limits.ensures c.self.invariant.luns_served lent c.in-Keep.ensures.follows tasks before in
+    let kept = follows_at d c.limits_of-limits.result s.luns c.deref.result.now c.args.bytes.now (Keep c.in-Keep.task) c.limits_of-limits.ensures c.self.invariant.luns_served lent
+    c.in-Keep.ensures.follows tasks before in
     answers_same _ _ _ _ _ c.self.view_is (owes_nothing (sizes_of d) tasks c.args.bytes.now kept.silent) in
     let is = c.self.view_is in
     let now : DeviceState = record { store = s.store; shape = s.shape; regions = s.regions.items; lists = s.lists; tasks = c.push.new.self.items; held = s.held.items; counts = s.counts } in
@@ -365,7 +402,8 @@ returns-in-Data-clause-fetched g c = λ e keeps stand.
     let answers : (tasks : List Waiting) → KeepsTasks c.args.self.now.tasks c.args.self.now.held tasks → answers_to (sizes_of c.args.self.now) true tasks c.args.bytes.now ≡ [] =
     λ tasks keeps_tasks.
     let before : KeepsTasks d.tasks d.held tasks = subst (λ (x : DeviceState). KeepsTasks x.tasks x.held tasks) (sym c.self.view_is) keeps_tasks in
-    let kept = follows_at d c.limits_of-limits.result s.luns c.deref.result.now c.args.bytes.now (Data c.in-Data.segment) c.limits_of-limits.ensures c.self.invariant.luns_served lent c.in-Data.ensures.follows tasks before in
+    let kept = follows_at d c.limits_of-limits.result s.luns c.deref.result.now c.args.bytes.now (Data c.in-Data.segment) c.limits_of-limits.ensures c.self.invariant.luns_served lent
+    c.in-Data.ensures.follows tasks before in
     answers_same _ _ _ _ _ c.self.view_is (owes_nothing (sizes_of d) tasks c.args.bytes.now kept.silent) in
     lists_still c.args.self.now c.take_data.new.self (e ▹ Host c.args.bytes.now) c.take_data.ensures.store c.take_data.ensures.shape c.take_data.ensures.lists
     (answered_lists c.args.self.now c.args.bytes.now Nothing [] e (queue_in d c.args.self.now c.self.inside.luns _ c.self.view_is c.self.invariant) keeps answers stand)
@@ -374,7 +412,8 @@ pub returns-in-Answer-clause-fetched : goal.returns-in-Answer-clause-fetched
 returns-in-Answer-clause-fetched g c = λ e keeps stand.
     let s = c.self.inside in
     let d : DeviceState = record { store = s.store; shape = s.shape; regions = s.regions.items; lists = s.lists; tasks = s.tasks.items; held = s.held.items; counts = s.counts } in
-    answered_lists c.args.self.now c.args.bytes.now Upiu c.put_reply.new.out e (queue_in d c.args.self.now c.self.inside.luns _ c.self.view_is c.self.invariant) keeps (returns-in-Answer-clause-answers g c) stand
+    answered_lists c.args.self.now c.args.bytes.now Upiu c.put_reply.new.out e (queue_in d c.args.self.now c.self.inside.luns _ c.self.view_is c.self.invariant) keeps
+    (returns-in-Answer-clause-answers g c) stand
 
 pub returns-in-End-clause-fetched : goal.returns-in-End-clause-fetched
 returns-in-End-clause-fetched g c = λ e keeps stand.
@@ -383,7 +422,8 @@ returns-in-End-clause-fetched g c = λ e keeps stand.
     let is = c.self.view_is in
     lists_still c.args.self.now (now_of g c) (e ▹ Host c.args.bytes.now ▹ Device c.put_reply-in-End.new.out) (ap (λ (x : DeviceState). x.store) is) (ap (λ (x : DeviceState). x.shape) is)
     (ap (λ (x : DeviceState). x.lists) is)
-    (answered_lists c.args.self.now c.args.bytes.now Upiu c.put_reply-in-End.new.out e (queue_in d c.args.self.now c.self.inside.luns _ c.self.view_is c.self.invariant) keeps (returns-in-End-clause-answers g c) stand)
+    (answered_lists c.args.self.now c.args.bytes.now Upiu c.put_reply-in-End.new.out e (queue_in d c.args.self.now c.self.inside.luns _ c.self.view_is c.self.invariant) keeps
+    (returns-in-End-clause-answers g c) stand)
 
 pub returns-in-Keep-clause-counted : goal.returns-in-Keep-clause-counted
 returns-in-Keep-clause-counted g c = λ first e at stand.
@@ -399,7 +439,8 @@ returns-in-Answer-clause-counted g c = λ first e at stand.
     let lent : c.deref.result.now ≡ d.tasks = search rules in
     let before : DeviceStands d first e = subst (λ (x : DeviceState). DeviceStands x first e) (sym c.self.view_is) at in
     let answers : (tasks : List Waiting) → KeepsTasks d.tasks d.held tasks → reply_of (sizes_of d) true tasks c.args.bytes.now ≡ Some (reply_upiu c.in-Answer.reply) =
-    λ tasks keeps. (follows_at d c.limits_of-limits.result s.luns c.deref.result.now c.args.bytes.now (Answer c.in-Answer.reply) c.limits_of-limits.ensures c.self.invariant.luns_served lent c.in-Answer.ensures.follows tasks keeps).answers in
+    λ tasks keeps. (follows_at d c.limits_of-limits.result s.luns c.deref.result.now c.args.bytes.now (Answer c.in-Answer.reply) c.limits_of-limits.ensures c.self.invariant.luns_served lent
+    c.in-Answer.ensures.follows tasks keeps).answers in
     let now = reply_counts d d c.args.bytes.now e refl refl refl (omega arith) (subst (λ (x : DeviceState). CountsStand x e) (sym c.self.view_is) stand)
     (reply_upiu c.in-Answer.reply) c.put_reply.new.out first before answers c.put_reply.ensures in
     subst (λ (x : DeviceState). CountsStand x (e ▹ Host c.args.bytes.now ▹ Device c.put_reply.new.out)) c.self.view_is now
@@ -412,7 +453,8 @@ returns-in-End-clause-counted g c = λ first e at stand.
     let before : DeviceStands d first e = subst (λ (x : DeviceState). DeviceStands x first e) (sym c.self.view_is) at in
     let ends : EndsHead d (now_of g c) c.put_reply-in-End.new.out = subst (λ (x : DeviceState). EndsHead x (now_of g c) c.put_reply-in-End.new.out) (sym c.self.view_is) (ends_it g c) in
     let answers : (tasks : List Waiting) → KeepsTasks d.tasks d.held tasks → reply_of (sizes_of d) true tasks c.args.bytes.now ≡ Some (reply_upiu c.in-End.reply) =
-    λ tasks keeps. follows_at d c.limits_of-limits.result s.luns c.deref.result.now c.args.bytes.now (End c.in-End.reply) c.limits_of-limits.ensures c.self.invariant.luns_served lent c.in-End.ensures.follows tasks keeps in
+    λ tasks keeps. follows_at d c.limits_of-limits.result s.luns c.deref.result.now c.args.bytes.now (End c.in-End.reply) c.limits_of-limits.ensures c.self.invariant.luns_served lent
+    c.in-End.ensures.follows tasks keeps in
     let fewer = ending_fewer d (now_of g c) s.luns (limits_of s.shape) c.put_reply-in-End.new.out c.self.invariant.queue ends in
     reply_counts d (now_of g c) c.args.bytes.now e refl refl refl fewer (subst (λ (x : DeviceState). CountsStand x e) (sym c.self.view_is) stand)
     (reply_upiu c.in-End.reply) c.put_reply-in-End.new.out first before answers c.put_reply-in-End.ensures

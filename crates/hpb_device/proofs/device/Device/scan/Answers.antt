@@ -10,7 +10,15 @@ pub returns-in-Err-clause-fewer : goal.returns-in-Err-clause-fewer
 returns-in-Err-clause-fewer g c =
     let s = c.self.inside in
     let d : DeviceState = record { store = s.store; shape = s.shape; regions = s.regions.items; lists = s.lists; tasks = s.tasks.items; held = s.held.items; counts = s.counts } in
-    let n : DeviceState = record { store = c.scan_step.new.self; shape = s.shape; regions = s.regions.items; lists = c.unread_list.new.lists; tasks = c.end_unread.new.tasks.items; held = c.end_unread.new.held.items; counts = c.stepped-self-inside.result } in
+    let n : DeviceState = record {
+      store = c.scan_step.new.self;
+      shape = s.shape;
+      regions = s.regions.items;
+      lists = c.unread_list.new.lists;
+      tasks = c.end_unread.new.tasks.items;
+      held = c.end_unread.new.held.items;
+      counts = c.stepped-self-inside.result;
+    } in
     let some = c.self.invariant.served.limits.least_pages in
     let same = c.in-Err.ensures.same in
     subst (λ (x : DeviceState). LeavesFewer x n c.end_unread.result) c.self.view_is

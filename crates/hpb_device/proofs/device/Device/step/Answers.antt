@@ -60,8 +60,10 @@ returns-in-Ready-clause-stands g c = λ first e at.
     let d : DeviceState = record { store = s.store; shape = s.shape; regions = s.regions.items; lists = s.lists; tasks = s.tasks.items; held = s.held.items; counts = s.counts } in
     let well : IsWell c.args.self.now = subst IsWell c.self.view_is (well_of d s.luns _ c.self.invariant c.phase.ensures.stands) in
     let is : c.args.self.now.store.phase ≡ Ready = ap (λ (x : DeviceState). x.store.phase) (sym c.self.view_is) ∙ (sym c.phase.ensures.phase ∙ c.in-Ready.is) in
-    idle_or (λ (x : DeviceState) (h : History). DeviceStands x first h) (GoesOn c.args.self.now c.advance_head.new.self c.advance_head.result c.advance_head.new.out) c.args.self.now c.advance_head.new.self c.advance_head.result c.advance_head.new.out e c.advance_head.ensures.nothing c.advance_head.ensures.unchanged
-    (λ steps before. steps_stands c.args.self.now c.advance_head.new.self well c.advance_head.ensures.shape c.advance_head.result c.advance_head.new.out Ready first e is steps before) c.advance_head.ensures.goes at
+    idle_or (λ (x : DeviceState) (h : History). DeviceStands x first h) (GoesOn c.args.self.now c.advance_head.new.self c.advance_head.result c.advance_head.new.out) c.args.self.now
+    c.advance_head.new.self c.advance_head.result c.advance_head.new.out e c.advance_head.ensures.nothing c.advance_head.ensures.unchanged
+    (λ steps before. steps_stands c.args.self.now c.advance_head.new.self well c.advance_head.ensures.shape c.advance_head.result c.advance_head.new.out Ready first e is steps before)
+    c.advance_head.ensures.goes at
 
 pub returns-in-Ready-clause-foreign : goal.returns-in-Ready-clause-foreign
 returns-in-Ready-clause-foreign g c = λ chip first e at.
@@ -69,8 +71,10 @@ returns-in-Ready-clause-foreign g c = λ chip first e at.
     let d : DeviceState = record { store = s.store; shape = s.shape; regions = s.regions.items; lists = s.lists; tasks = s.tasks.items; held = s.held.items; counts = s.counts } in
     let well : IsWell c.args.self.now = subst IsWell c.self.view_is (well_of d s.luns _ c.self.invariant c.phase.ensures.stands) in
     let is : c.args.self.now.store.phase ≡ Ready = ap (λ (x : DeviceState). x.store.phase) (sym c.self.view_is) ∙ (sym c.phase.ensures.phase ∙ c.in-Ready.is) in
-    idle_or (λ (x : DeviceState) (h : History). DeviceStandsForeign x chip first h) (GoesOn c.args.self.now c.advance_head.new.self c.advance_head.result c.advance_head.new.out) c.args.self.now c.advance_head.new.self c.advance_head.result c.advance_head.new.out e c.advance_head.ensures.nothing c.advance_head.ensures.unchanged
-    (λ steps before. steps_foreign c.args.self.now c.advance_head.new.self well c.advance_head.ensures.shape c.advance_head.result c.advance_head.new.out chip Ready first e is steps before) c.advance_head.ensures.goes at
+    idle_or (λ (x : DeviceState) (h : History). DeviceStandsForeign x chip first h) (GoesOn c.args.self.now c.advance_head.new.self c.advance_head.result c.advance_head.new.out) c.args.self.now
+    c.advance_head.new.self c.advance_head.result c.advance_head.new.out e c.advance_head.ensures.nothing c.advance_head.ensures.unchanged
+    (λ steps before. steps_foreign c.args.self.now c.advance_head.new.self well c.advance_head.ensures.shape c.advance_head.result c.advance_head.new.out chip Ready first e is steps before)
+    c.advance_head.ensures.goes at
 
 pub returns-in-Ready-clause-entries : goal.returns-in-Ready-clause-entries
 returns-in-Ready-clause-entries g c = λ first e at stand.
@@ -78,8 +82,10 @@ returns-in-Ready-clause-entries g c = λ first e at stand.
     let d : DeviceState = record { store = s.store; shape = s.shape; regions = s.regions.items; lists = s.lists; tasks = s.tasks.items; held = s.held.items; counts = s.counts } in
     let well : IsWell c.args.self.now = subst IsWell c.self.view_is (well_of d s.luns _ c.self.invariant c.phase.ensures.stands) in
     let is : c.args.self.now.store.phase ≡ Ready = ap (λ (x : DeviceState). x.store.phase) (sym c.self.view_is) ∙ (sym c.phase.ensures.phase ∙ c.in-Ready.is) in
-    idle_or (EntriesStand) (GoesOn c.args.self.now c.advance_head.new.self c.advance_head.result c.advance_head.new.out) c.args.self.now c.advance_head.new.self c.advance_head.result c.advance_head.new.out e c.advance_head.ensures.nothing c.advance_head.ensures.unchanged
-    (λ steps before. steps_entries c.args.self.now c.advance_head.new.self well c.advance_head.ensures.shape c.advance_head.result c.advance_head.new.out Ready first e is steps at before) c.advance_head.ensures.goes stand
+    idle_or (EntriesStand) (GoesOn c.args.self.now c.advance_head.new.self c.advance_head.result c.advance_head.new.out) c.args.self.now c.advance_head.new.self c.advance_head.result
+    c.advance_head.new.out e c.advance_head.ensures.nothing c.advance_head.ensures.unchanged
+    (λ steps before. steps_entries c.args.self.now c.advance_head.new.self well c.advance_head.ensures.shape c.advance_head.result c.advance_head.new.out Ready first e is steps at before)
+    c.advance_head.ensures.goes stand
 
 pub returns-in-Ready-clause-listings : goal.returns-in-Ready-clause-listings
 returns-in-Ready-clause-listings g c = λ had pages first e at stand.
@@ -87,8 +93,10 @@ returns-in-Ready-clause-listings g c = λ had pages first e at stand.
     let d : DeviceState = record { store = s.store; shape = s.shape; regions = s.regions.items; lists = s.lists; tasks = s.tasks.items; held = s.held.items; counts = s.counts } in
     let well : IsWell c.args.self.now = subst IsWell c.self.view_is (well_of d s.luns _ c.self.invariant c.phase.ensures.stands) in
     let is : c.args.self.now.store.phase ≡ Ready = ap (λ (x : DeviceState). x.store.phase) (sym c.self.view_is) ∙ (sym c.phase.ensures.phase ∙ c.in-Ready.is) in
-    idle_or (ListingStands had pages) (GoesOn c.args.self.now c.advance_head.new.self c.advance_head.result c.advance_head.new.out) c.args.self.now c.advance_head.new.self c.advance_head.result c.advance_head.new.out e c.advance_head.ensures.nothing c.advance_head.ensures.unchanged
-    (λ steps before. steps_listings c.args.self.now c.advance_head.new.self well c.advance_head.ensures.shape c.advance_head.result c.advance_head.new.out had pages Ready first e is steps at before) c.advance_head.ensures.goes stand
+    idle_or (ListingStands had pages) (GoesOn c.args.self.now c.advance_head.new.self c.advance_head.result c.advance_head.new.out) c.args.self.now c.advance_head.new.self c.advance_head.result
+    c.advance_head.new.out e c.advance_head.ensures.nothing c.advance_head.ensures.unchanged
+    (λ steps before. steps_listings c.args.self.now c.advance_head.new.self well c.advance_head.ensures.shape c.advance_head.result c.advance_head.new.out had pages Ready first e is steps at before)
+    c.advance_head.ensures.goes stand
 
 pub returns-in-Foreign-clause-foreign : goal.returns-in-Foreign-clause-foreign
 returns-in-Foreign-clause-foreign g c = λ chip first e at.
@@ -96,8 +104,10 @@ returns-in-Foreign-clause-foreign g c = λ chip first e at.
     let d : DeviceState = record { store = s.store; shape = s.shape; regions = s.regions.items; lists = s.lists; tasks = s.tasks.items; held = s.held.items; counts = s.counts } in
     let well : IsWell c.args.self.now = subst IsWell c.self.view_is (well_of d s.luns _ c.self.invariant c.phase.ensures.stands) in
     let is : c.args.self.now.store.phase ≡ Foreign = ap (λ (x : DeviceState). x.store.phase) (sym c.self.view_is) ∙ (sym c.phase.ensures.phase ∙ c.in-Foreign.is) in
-    idle_or (λ (x : DeviceState) (h : History). DeviceStandsForeign x chip first h) (Refuses c.args.self.now c.refuse_head.new.self c.refuse_head.result c.refuse_head.new.out) c.args.self.now c.refuse_head.new.self c.refuse_head.result c.refuse_head.new.out e c.refuse_head.ensures.nothing c.refuse_head.ensures.unchanged
-    (λ steps before. steps_foreign c.args.self.now c.refuse_head.new.self well c.refuse_head.ensures.shape c.refuse_head.result c.refuse_head.new.out chip Foreign first e is steps before) c.refuse_head.ensures.refuses at
+    idle_or (λ (x : DeviceState) (h : History). DeviceStandsForeign x chip first h) (Refuses c.args.self.now c.refuse_head.new.self c.refuse_head.result c.refuse_head.new.out) c.args.self.now
+    c.refuse_head.new.self c.refuse_head.result c.refuse_head.new.out e c.refuse_head.ensures.nothing c.refuse_head.ensures.unchanged
+    (λ steps before. steps_foreign c.args.self.now c.refuse_head.new.self well c.refuse_head.ensures.shape c.refuse_head.result c.refuse_head.new.out chip Foreign first e is steps before)
+    c.refuse_head.ensures.refuses at
 
 pub returns-in-Scanning-clause-counted : goal.returns-in-Scanning-clause-counted
 returns-in-Scanning-clause-counted g c = λ first e at entries lists stand.
@@ -113,8 +123,10 @@ returns-in-Ready-clause-counted g c = λ first e at entries lists stand.
     let d : DeviceState = record { store = s.store; shape = s.shape; regions = s.regions.items; lists = s.lists; tasks = s.tasks.items; held = s.held.items; counts = s.counts } in
     let well : IsWell c.args.self.now = subst IsWell c.self.view_is (well_of d s.luns _ c.self.invariant c.phase.ensures.stands) in
     let is : c.args.self.now.store.phase ≡ Ready = ap (λ (x : DeviceState). x.store.phase) (sym c.self.view_is) ∙ (sym c.phase.ensures.phase ∙ c.in-Ready.is) in
-    idle_or (CountsStand) (GoesOn c.args.self.now c.advance_head.new.self c.advance_head.result c.advance_head.new.out) c.args.self.now c.advance_head.new.self c.advance_head.result c.advance_head.new.out e c.advance_head.ensures.nothing c.advance_head.ensures.unchanged
-    (λ steps before. steps_counts c.args.self.now c.advance_head.new.self well c.advance_head.ensures.shape c.advance_head.result c.advance_head.new.out Ready first e is steps at entries lists before) c.advance_head.ensures.goes stand
+    idle_or (CountsStand) (GoesOn c.args.self.now c.advance_head.new.self c.advance_head.result c.advance_head.new.out) c.args.self.now c.advance_head.new.self c.advance_head.result
+    c.advance_head.new.out e c.advance_head.ensures.nothing c.advance_head.ensures.unchanged
+    (λ steps before. steps_counts c.args.self.now c.advance_head.new.self well c.advance_head.ensures.shape c.advance_head.result c.advance_head.new.out Ready first e is steps at entries lists before)
+    c.advance_head.ensures.goes stand
 
 pub returns-in-Ready-clause-looked : goal.returns-in-Ready-clause-looked
 returns-in-Ready-clause-looked g c = λ idle.
@@ -144,16 +156,20 @@ returns-in-Ready-clause-hints g c = λ e keeps stand.
     let s = c.self.inside in
     let d : DeviceState = record { store = s.store; shape = s.shape; regions = s.regions.items; lists = s.lists; tasks = s.tasks.items; held = s.held.items; counts = s.counts } in
     let well : IsWell c.args.self.now = subst IsWell c.self.view_is (well_of d s.luns _ c.self.invariant c.phase.ensures.stands) in
-    idle_or HintsStand (GoesOn c.args.self.now c.advance_head.new.self c.advance_head.result c.advance_head.new.out) c.args.self.now c.advance_head.new.self c.advance_head.result c.advance_head.new.out e c.advance_head.ensures.nothing c.advance_head.ensures.unchanged
-    (λ steps before. steps_hints Ready c.args.self.now c.advance_head.new.self c.advance_head.result c.advance_head.new.out e well.regions steps c.advance_head.ensures.shape keeps before) c.advance_head.ensures.goes stand
+    idle_or HintsStand (GoesOn c.args.self.now c.advance_head.new.self c.advance_head.result c.advance_head.new.out) c.args.self.now c.advance_head.new.self c.advance_head.result
+    c.advance_head.new.out e c.advance_head.ensures.nothing c.advance_head.ensures.unchanged
+    (λ steps before. steps_hints Ready c.args.self.now c.advance_head.new.self c.advance_head.result c.advance_head.new.out e well.regions steps c.advance_head.ensures.shape keeps before)
+    c.advance_head.ensures.goes stand
 
 pub returns-in-Foreign-clause-hints : goal.returns-in-Foreign-clause-hints
 returns-in-Foreign-clause-hints g c = λ e keeps stand.
     let s = c.self.inside in
     let d : DeviceState = record { store = s.store; shape = s.shape; regions = s.regions.items; lists = s.lists; tasks = s.tasks.items; held = s.held.items; counts = s.counts } in
     let well : IsWell c.args.self.now = subst IsWell c.self.view_is (well_of d s.luns _ c.self.invariant c.phase.ensures.stands) in
-    idle_or HintsStand (Refuses c.args.self.now c.refuse_head.new.self c.refuse_head.result c.refuse_head.new.out) c.args.self.now c.refuse_head.new.self c.refuse_head.result c.refuse_head.new.out e c.refuse_head.ensures.nothing c.refuse_head.ensures.unchanged
-    (λ steps before. steps_hints Foreign c.args.self.now c.refuse_head.new.self c.refuse_head.result c.refuse_head.new.out e well.regions steps c.refuse_head.ensures.shape keeps before) c.refuse_head.ensures.refuses stand
+    idle_or HintsStand (Refuses c.args.self.now c.refuse_head.new.self c.refuse_head.result c.refuse_head.new.out) c.args.self.now c.refuse_head.new.self c.refuse_head.result c.refuse_head.new.out e
+    c.refuse_head.ensures.nothing c.refuse_head.ensures.unchanged
+    (λ steps before. steps_hints Foreign c.args.self.now c.refuse_head.new.self c.refuse_head.result c.refuse_head.new.out e well.regions steps c.refuse_head.ensures.shape keeps before)
+    c.refuse_head.ensures.refuses stand
 
 pub returns-in-Scanning-clause-fetched : goal.returns-in-Scanning-clause-fetched
 returns-in-Scanning-clause-fetched g c = λ e keeps stand.
@@ -167,13 +183,17 @@ returns-in-Ready-clause-fetched g c = λ e keeps stand.
     let s = c.self.inside in
     let d : DeviceState = record { store = s.store; shape = s.shape; regions = s.regions.items; lists = s.lists; tasks = s.tasks.items; held = s.held.items; counts = s.counts } in
     let well : IsWell c.args.self.now = subst IsWell c.self.view_is (well_of d s.luns _ c.self.invariant c.phase.ensures.stands) in
-    idle_or ListsStand (GoesOn c.args.self.now c.advance_head.new.self c.advance_head.result c.advance_head.new.out) c.args.self.now c.advance_head.new.self c.advance_head.result c.advance_head.new.out e c.advance_head.ensures.nothing c.advance_head.ensures.unchanged
-    (λ steps before. steps_lists Ready c.args.self.now c.advance_head.new.self c.advance_head.result c.advance_head.new.out e well steps c.advance_head.ensures.shape keeps before) c.advance_head.ensures.goes stand
+    idle_or ListsStand (GoesOn c.args.self.now c.advance_head.new.self c.advance_head.result c.advance_head.new.out) c.args.self.now c.advance_head.new.self c.advance_head.result
+    c.advance_head.new.out e c.advance_head.ensures.nothing c.advance_head.ensures.unchanged
+    (λ steps before. steps_lists Ready c.args.self.now c.advance_head.new.self c.advance_head.result c.advance_head.new.out e well steps c.advance_head.ensures.shape keeps before)
+    c.advance_head.ensures.goes stand
 
 pub returns-in-Foreign-clause-fetched : goal.returns-in-Foreign-clause-fetched
 returns-in-Foreign-clause-fetched g c = λ e keeps stand.
     let s = c.self.inside in
     let d : DeviceState = record { store = s.store; shape = s.shape; regions = s.regions.items; lists = s.lists; tasks = s.tasks.items; held = s.held.items; counts = s.counts } in
     let well : IsWell c.args.self.now = subst IsWell c.self.view_is (well_of d s.luns _ c.self.invariant c.phase.ensures.stands) in
-    idle_or ListsStand (Refuses c.args.self.now c.refuse_head.new.self c.refuse_head.result c.refuse_head.new.out) c.args.self.now c.refuse_head.new.self c.refuse_head.result c.refuse_head.new.out e c.refuse_head.ensures.nothing c.refuse_head.ensures.unchanged
-    (λ steps before. steps_lists Foreign c.args.self.now c.refuse_head.new.self c.refuse_head.result c.refuse_head.new.out e well steps c.refuse_head.ensures.shape keeps before) c.refuse_head.ensures.refuses stand
+    idle_or ListsStand (Refuses c.args.self.now c.refuse_head.new.self c.refuse_head.result c.refuse_head.new.out) c.args.self.now c.refuse_head.new.self c.refuse_head.result c.refuse_head.new.out e
+    c.refuse_head.ensures.nothing c.refuse_head.ensures.unchanged
+    (λ steps before. steps_lists Foreign c.args.self.now c.refuse_head.new.self c.refuse_head.result c.refuse_head.new.out e well steps c.refuse_head.ensures.shape keeps before)
+    c.refuse_head.ensures.refuses stand

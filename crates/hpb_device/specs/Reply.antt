@@ -1,5 +1,5 @@
 -- The UPIUs that a device sends without data of a command.
-use Rattle.std.specs.Prelude.{List, []}
+use Rattle.std.specs.Prelude.{ℕ, List, []}
 use Rattle.hpb_sense.specs.declared.sense.FixedSense.{FixedSense}
 use Rattle.hpb_sense.specs.Sense.{fixed_out}
 use Rattle.upiu_wire.specs.declared.kind.Kind.TheVariants.{NopIn as NopInKind}

@@ -1,5 +1,4 @@
 pub mod Broken
-pub mod Forms
 pub mod Numbers
-pub mod Options
+pub mod Reading
 pub mod Rows

@@ -1,170 +1,147 @@
--- The words of the command line, and the chip, the logical unit and the flags that they name.
-use Rattle.std.specs.Prelude.{◌≡◌, ◌≢◌, ◌⊎◌, ℕ, ◌-◌, ◌*◌, Bool, false, ◌&&◌, ◌||◌, nat_le, IsTrue, List, [], ◌∷◌, All}
-use Rattle.std.specs.Prelude.{AllPairs, find, flat_map, length, Option, codes, if◌then◌else◌, unwrap_or, option_map}
-use Rattle.std.specs.List.{list_all, list_any}
+-- The words of the command line as `clap` reads them, and the chip, the logical unit and the flags that they name.
+use Rattle.std.specs.Prelude.{◌≡◌, ◌⊎◌, ℕ, ◌-◌, ◌*◌, Bool, true, false, ◌&&◌, ◌||◌, nat_le, IfSome, IsTrue}
+use Rattle.std.specs.Prelude.{List, [], ◌∷◌, fold, length, map, slice_get, Option, Some, codes, if◌then◌else◌}
+use Rattle.std.specs.Prelude.{unwrap_or, option_map}
+use Rattle.std.specs.List.{list_all}
+use Rattle.std.specs.Option.{option_map_or}
 use Rattle.std.specs.Char.{is_ascii_digit}
 use Rattle.std.specs.Str.{bytes_eq}
 use Rattle.std.specs.Str.Parse.{digits_value}
+use Rattle.clap.specs.Faults.{fault_of}
+use Rattle.clap.specs.Simple.{App, matches_of, new_app, new_rule, on_top, with_rule}
+use Rattle.clap.specs.Walk.{Row, Rule, Text, first_of}
+use Rattle.clap.specs.declared.builder.action.ArgAction.TheVariants.{Set, SetTrue}
 use Rattle.flash_pages.specs.declared.chip.Geometry.{Geometry}
 use Rattle.region_state.specs.declared.shape.Mode as declared
 use Rattle.region_state.specs.declared.shape.Mode.TheVariants as decides
 use Rattle.region_state.specs.declared.shape.Shape.{Shape}
-use Rattle.command_words.specs.declared.words.Flag.{Flag}
-use Rattle.command_words.specs.declared.words.Flag.TheVariants.{Plain, Answers}
-use Rattle.command_words.specs.declared.words.OptionName.{OptionName}
-use Rattle.command_words.specs.declared.words.OptionName.TheVariants.{Blocks, Pages, Units, Region, Sub, Held, Mode}
 
--- the words are the one word `show`
-abbrev pub IsShow : List (List ℕ) → Type 0
-IsShow words = words ≡ codes "show" ∷ []
+-- an option, `--name` with a value, and a flag, `--name` alone, as they are declared to `clap`
+abbrev pub option_rule : Text → Rule
+option_rule name = record (new_rule name) { long = Some name; action = Some Set; value_names = 1 }
 
--- an option, as it is written
-abbrev pub name_of : OptionName → List ℕ
-name_of Blocks = codes "--blocks"
-name_of Pages = codes "--pages"
-name_of Units = codes "--units"
-name_of Region = codes "--region"
-name_of Sub = codes "--sub"
-name_of Held = codes "--held"
-name_of Mode = codes "--mode"
+abbrev pub flag_rule : Text → Rule
+flag_rule name = record (new_rule name) { long = Some name; action = Some SetTrue }
+
+-- a command of no option and no flag, not even one for help
+abbrev pub bare_app : Text → App
+bare_app name = on_top (λ s. record s { disable_help_flag = true }) (new_app name)
+
+-- the options whose values are numbers
+abbrev pub number_options : List Text
+number_options =
+    codes "blocks" ∷ codes "pages" ∷ codes "units" ∷ codes "region" ∷ codes "sub" ∷ codes "held" ∷ []
+
+-- a command with these options, and with `--mode`
+abbrev pub with_shape : App → App
+with_shape app = with_rule (fold with_rule app (map option_rule number_options)) (option_rule (codes "mode"))
+
+-- the three commands
+unfoldable pub replay_app : App
+replay_app = with_shape (bare_app (codes "replay"))
+
+unfoldable pub drive_app : App
+drive_app = with_rule (with_rule (with_shape (bare_app (codes "drive"))) (flag_rule (codes "plain")))
+    (flag_rule (codes "answers"))
+
+unfoldable pub show_app : App
+show_app = bare_app (codes "show")
+
+-- the first word
+abbrev pub IsFirst : Text → List Text → Type 0
+IsFirst word words = slice_get words 0 ≡ Some word
 
 -- one to nine decimal digits
-abbrev pub is_number : List ℕ → Bool
+abbrev pub is_number : Text → Bool
 is_number word = nat_le 1 (length word) && (nat_le (length word) 9 && list_all is_ascii_digit word)
 
--- the word is of the form that this option wants: `device` or `host`, or a number
-abbrev pub is_value : OptionName → List ℕ → Bool
-is_value Mode word = bytes_eq word (codes "device") || bytes_eq word (codes "host")
-is_value _ word = is_number word
+-- where an option is set, its value is a number
+abbrev pub HasNumber : List Row → Text → Type 0
+HasNumber rows option = IfSome (first_of option rows) (λ value. IsTrue (is_number value))
 
--- two words: an option, and its value
-pub record Setting : Type 0 where
-  pub name : List ℕ
-  pub value : List ℕ
+-- where the mode is set, it is `device` or `host`
+abbrev pub HasMode : List Row → Type 0
+HasMode rows =
+    IfSome (first_of (codes "mode") rows) (λ value. IsTrue (bytes_eq value (codes "device") || bytes_eq value (codes "host")))
 
--- a flag, as it is written
-abbrev pub flag_name : Flag → List ℕ
-flag_name Plain = codes "--plain"
-flag_name Answers = codes "--answers"
+-- each value is of the form that its option wants
+pub record HasValues (rows : List Row) : Type 0 where
+  pub blocks : HasNumber rows (codes "blocks")
+  pub pages : HasNumber rows (codes "pages")
+  pub units : HasNumber rows (codes "units")
+  pub region : HasNumber rows (codes "region")
+  pub sub : HasNumber rows (codes "sub")
+  pub held : HasNumber rows (codes "held")
+  pub mode : HasMode rows
 
--- the word is a known flag
-abbrev pub is_flag : List ℕ → Bool
-is_flag word = bytes_eq word (codes "--plain") || bytes_eq word (codes "--answers")
+-- `clap` takes the words, and each value is of its form
+pub record IsRead (app : App) (words : List Text) : Type 0 where
+  pub taken : fault_of app words ≡ []
+  pub values : HasValues (matches_of app words)
 
--- a flag, or an option and its value
-pub data Part : Type 0 where
-  Alone : List ℕ → Part
-  Pair : Setting → Part
+-- the words are a command with what it takes
+abbrev pub IsReplay : List Text → Type 0
+IsReplay words = IsFirst (codes "replay") words × IsRead replay_app words
 
--- the parts that words are: a flag stands alone, else two words are a pair; a last word that is left over is none
-abbrev pub parts_of : List (List ℕ) → List Part
-parts_of [] = []
-parts_of (word ∷ []) = if is_flag word then Alone word ∷ [] else []
-parts_of (name ∷ value ∷ words) =
-    if is_flag name then Alone name ∷ parts_of (value ∷ words)
-    else Pair (record { name = name; value = value }) ∷ parts_of words
+abbrev pub IsDrive : List Text → Type 0
+IsDrive words = IsFirst (codes "drive") words × IsRead drive_app words
 
--- the parts behind the command
-abbrev pub parts_behind : List (List ℕ) → List Part
-parts_behind [] = []
-parts_behind (command ∷ words) = parts_of words
-
--- the words of a part
-abbrev pub words_in : Part → List (List ℕ)
-words_in (Alone word) = word ∷ []
-words_in (Pair s) = s.name ∷ s.value ∷ []
-
--- the flag or the option
-abbrev pub part_name : Part → List ℕ
-part_name (Alone word) = word
-part_name (Pair s) = s.name
-
--- the options and their values, without the flags
-abbrev pub settings_among : List Part → List Setting
-settings_among [] = []
-settings_among (Alone word ∷ parts) = settings_among parts
-settings_among (Pair s ∷ parts) = s ∷ settings_among parts
-
--- the option is known, and its value of its form
-abbrev pub IsSetting : Setting → Type 0
-IsSetting s = (option : OptionName) × (s.name ≡ name_of option) × IsTrue (is_value option s.value)
-
--- a setting
-abbrev pub IsOption : Part → Type 0
-IsOption (Alone word) = ⊥
-IsOption (Pair s) = IsSetting s
-
--- a setting, or a known flag
-abbrev pub IsPart : Part → Type 0
-IsPart (Alone word) = (flag : Flag) × (word ≡ flag_name flag)
-IsPart (Pair s) = IsSetting s
-
--- the words are the command and parts that it allows, of different names
-pub record HasForm (command : List ℕ) (Allowed : Part → Type 0) (words : List (List ℕ)) : Type 0 where
-  pub spelled : words ≡ command ∷ flat_map words_in (parts_behind words)
-  pub formed : All Allowed (parts_behind words)
-  pub once : AllPairs (λ (a b : Part). part_name a ≢ part_name b) (parts_behind words)
-
-abbrev pub IsReplay : List (List ℕ) → Type 0
-IsReplay words = HasForm (codes "replay") IsOption words
-
-abbrev pub IsDrive : List (List ℕ) → Type 0
-IsDrive words = HasForm (codes "drive") IsPart words
+abbrev pub IsShow : List Text → Type 0
+IsShow words = IsFirst (codes "show") words × (fault_of show_app words ≡ [])
 
 -- the words are of a command that runs a device
-abbrev pub RunsDevice : List (List ℕ) → Type 0
+abbrev pub RunsDevice : List Text → Type 0
 RunsDevice words = IsReplay words ⊎ IsDrive words
 
--- the value of an option, where it is set
-abbrev pub value_of : List Setting → OptionName → Option (List ℕ)
-value_of settings option =
-    option_map (λ (s : Setting). s.value) (find (λ (s : Setting). bytes_eq s.name (name_of option)) settings)
+-- the number and the mode that are set
+abbrev pub number_set : List Row → Text → Option ℕ
+number_set rows option = option_map (digits_value 10) (first_of option rows)
 
-abbrev pub number_set : List Setting → OptionName → Option ℕ
-number_set settings option = option_map (digits_value 10) (value_of settings option)
+abbrev pub mode_set : List Row → Option declared.Mode
+mode_set rows =
+    option_map (λ (value : Text). if bytes_eq value (codes "host") then decides.Host else decides.Device)
+    (first_of (codes "mode") rows)
 
-abbrev pub mode_set : List Setting → Option declared.Mode
-mode_set settings =
-    option_map (λ (value : List ℕ). if bytes_eq value (codes "host") then decides.Host else decides.Device)
-    (value_of settings Mode)
-
--- the chip that settings name: 64 erase blocks of 64 pages where they name no other number
-abbrev pub chip_set : List Setting → Geometry
-chip_set settings = record {
-  blocks = unwrap_or (number_set settings Blocks) 64;
-  pages = unwrap_or (number_set settings Pages) 64;
+-- the chip that is named: 64 erase blocks of 64 pages where no other number is set
+abbrev pub chip_set : List Row → Geometry
+chip_set rows = record {
+  blocks = unwrap_or (number_set rows (codes "blocks")) 64;
+  pages = unwrap_or (number_set rows (codes "pages")) 64;
 }
 
--- the unit that they name: as many blocks as the chip has pages but for three erase blocks, regions of 512 KiB and
--- subregions of 128 KiB, 4 regions held, and the device decides, where they name nothing else
-abbrev pub unit_set : List Setting → Shape
-unit_set settings = record {
-  units = unwrap_or (number_set settings Units) (((chip_set settings).blocks - 3) * (chip_set settings).pages);
-  region_exp = unwrap_or (number_set settings Region) 10;
-  sub_exp = unwrap_or (number_set settings Sub) 8;
-  held = unwrap_or (number_set settings Held) 4;
-  mode = unwrap_or (mode_set settings) decides.Device;
+-- the unit that is named: as many blocks as the chip has pages but for three erase blocks, regions of 512 KiB and
+-- subregions of 128 KiB, 4 regions held, and the device decides, where nothing else is set
+abbrev pub unit_set : List Row → Shape
+unit_set rows = record {
+  units = unwrap_or (number_set rows (codes "units")) (((chip_set rows).blocks - 3) * (chip_set rows).pages);
+  region_exp = unwrap_or (number_set rows (codes "region")) 10;
+  sub_exp = unwrap_or (number_set rows (codes "sub")) 8;
+  held = unwrap_or (number_set rows (codes "held")) 4;
+  mode = unwrap_or (mode_set rows) decides.Device;
 }
+
+-- a flag is set
+abbrev pub has_flag : List Row → Text → Bool
+has_flag rows name = option_map_or (λ (value : Text). bytes_eq value (codes "true")) (first_of name rows) false
+
+-- the first word is `drive`
+abbrev pub is_drive : List Text → Bool
+is_drive words = option_map_or (λ (word : Text). bytes_eq word (codes "drive")) (slice_get words 0) false
+
+-- what the words set, as words of `drive` or of `replay`
+unfoldable pub rows_in : List Text → List Row
+rows_in words = if is_drive words then matches_of drive_app words else matches_of replay_app words
 
 -- what the words name
-unfoldable pub named_chip : List (List ℕ) → Geometry
-named_chip words = chip_set (settings_among (parts_behind words))
+unfoldable pub named_chip : List Text → Geometry
+named_chip words = chip_set (rows_in words)
 
-unfoldable pub named_unit : List (List ℕ) → Shape
-named_unit words = unit_set (settings_among (parts_behind words))
+unfoldable pub named_unit : List Text → Shape
+named_unit words = unit_set (rows_in words)
 
--- the part is this flag
-abbrev pub is_this_flag : Flag → Part → Bool
-is_this_flag flag (Alone word) = bytes_eq word (flag_name flag)
-is_this_flag flag (Pair s) = false
+-- `--plain` and `--answers` are among the words
+unfoldable pub is_plain : List Text → Bool
+is_plain words = has_flag (rows_in words) (codes "plain")
 
--- the flag is among the parts
-abbrev pub has_flag : Flag → List Part → Bool
-has_flag flag parts = list_any (is_this_flag flag) parts
-
--- `--plain` is among the words behind the command, and `--answers`
-unfoldable pub is_plain : List (List ℕ) → Bool
-is_plain words = has_flag Plain (parts_behind words)
-
-unfoldable pub only_answers : List (List ℕ) → Bool
-only_answers words = has_flag Answers (parts_behind words)
+unfoldable pub only_answers : List Text → Bool
+only_answers words = has_flag (rows_in words) (codes "answers")

@@ -2,10 +2,12 @@
 //! numbers.
 #![tactic(auto)]
 
+mod commands;
 mod limits;
 #[cfg(test)]
 mod tests;
 mod words;
 
+pub use commands::usage;
 pub use limits::{GeometryFault, Limit, NamedNumbers, each_refusal_is_told, geometry_fault};
-pub use words::{Command, Driven, Named, chip_of, command_of};
+pub use words::{Command, Driven, Named, WordsFault, chip_of, command_of};

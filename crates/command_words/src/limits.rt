@@ -1,9 +1,11 @@
 //! The limits of the numbers that the words name, and which of them the words don't keep.
-ghost use Rattle.std.specs.Prelude.{◌≡◌, ◌-◌, ◌*◌, ◌↔◌, All, IsTrue, List, MatchOption, map, string_bytes, ℕ};
+ghost use Rattle.std.specs.Prelude.{◌≡◌, ◌-◌, ◌*◌, ◌↔◌, All, IfOk, IsTrue, List, MatchOption, map, string_bytes, ℕ};
 ghost use Rattle.command_words.specs.Limits.{AppliesTo, IsBetween, IsBroken, IsKept, IsNamed, named_numbers};
 ghost use Rattle.command_words.specs.Words.{RunsDevice, named_chip};
 
-use crate::words::numbers_of;
+use crate::words::{WordsFault, numbers_of};
+use hpb_outside::NoMemory;
+use std::alloc::Global;
 use std::fmt;
 
 /// The numbers that the words of a command that runs a device name, with the defaults.
@@ -152,17 +154,25 @@ impl fmt::Display for GeometryFault {
 }
 
 /// The fault of the words at this limit. There is none where the words run no device, or the numbers keep the limit, or
-/// a limit that it stands on isn't kept.
-pub fn geometry_fault(words: &[String], limit: Limit) -> Option<GeometryFault>
-    ensures { MatchOption result (¬ IsBroken (map string_bytes words.now) limit)
+/// a limit that it stands on isn't kept. It fails where there isn't enough memory to read the words.
+pub fn geometry_fault(
+    alloc: Global,
+    words: &[String],
+    limit: Limit,
+) -> Result<Option<GeometryFault>, NoMemory>
+    ensures { IfOk result (λ fault. MatchOption fault (¬ IsBroken (map string_bytes words.now) limit)
         (λ fault. IsBroken (map string_bytes words.now) limit
-        × (fault ≡ record { limit = limit; numbers = named_numbers (map string_bytes words.now) })) }
+        × (fault ≡ record { limit = limit; numbers = named_numbers (map string_bytes words.now) }))) }
 {
-    let numbers = numbers_of(words)?;
+    let numbers = match numbers_of(alloc, words) {
+        Ok(numbers) => numbers,
+        Err(WordsFault::Usage) => return Ok(None),
+        Err(WordsFault::Memory) => return Err(NoMemory),
+    };
     if limit.applies_to(&numbers) && !limit.is_kept(&numbers) {
-        Some(GeometryFault { limit, numbers })
+        Ok(Some(GeometryFault { limit, numbers }))
     } else {
-        None
+        Ok(None)
     }
 }
 

@@ -49,7 +49,7 @@ fn small(units: u32, region_exp: u8, sub_exp: u8, held: u8, mode: Mode) -> Named
 }
 
 /// Words that aren't in form.
-const OTHERS: [&str; 42] = [
+const OTHERS: [&str; 51] = [
     // No word, no command, and `show` with more words.
     "",
     "Replay",
@@ -62,7 +62,16 @@ const OTHERS: [&str; 42] = [
     "replay --blocks",
     "replay --blocks 8 --pages",
     "replay --blocks --pages 4",
-    "replay --blocks=8 --pages=4",
+    "replay --blocks=8=8",
+    "replay --blocks=",
+    "replay -- 8",
+    "replay -- --blocks 8",
+    "replay --help",
+    "replay -h",
+    "drive --version",
+    "drive help",
+    "drive --plain=true",
+    "show --help",
     // Unknown options.
     "replay --size 8",
     "replay --Blocks 8",
@@ -107,6 +116,8 @@ fn words_of_a_replay_name_a_device(rt: HostRuntime) -> Result<(), Fail> {
     for (text, named) in [
         ("replay", named(64, 64, 3904)),
         ("replay --blocks 8 --pages 4", named(8, 4, 20)),
+        ("replay --blocks=8 --pages=4", named(8, 4, 20)),
+        ("replay --pages=4 --blocks 8 --", named(8, 4, 20)),
         ("replay --pages 4 --blocks 8", named(8, 4, 20)),
         ("replay --blocks 000000008 --pages 04", named(8, 4, 20)),
         ("replay --blocks 8 --pages 4 --units 1", named(8, 4, 1)),
@@ -148,7 +159,11 @@ fn words_of_a_replay_name_a_device(rt: HostRuntime) -> Result<(), Fail> {
         ),
     ] {
         let words = words_of(rt.alloc(), text)?;
-        assert_eq!(rt; command_of(&words), Some(Command::Replay(named)), "{text}");
+        assert_eq!(rt;
+            command_of(rt.alloc(), &words),
+            Ok(Command::Replay(named)),
+            "{text}"
+        );
     }
     Ok(())
 }
@@ -183,7 +198,11 @@ fn words_of_a_drive_name_flags_too(rt: HostRuntime) -> Result<(), Fail> {
             plain,
             answers,
         };
-        assert_eq!(rt; command_of(&words), Some(Command::Drive(driven)), "{text}");
+        assert_eq!(rt;
+            command_of(rt.alloc(), &words),
+            Ok(Command::Drive(driven)),
+            "{text}"
+        );
     }
     Ok(())
 }
@@ -191,10 +210,30 @@ fn words_of_a_drive_name_flags_too(rt: HostRuntime) -> Result<(), Fail> {
 #[test]
 fn other_words_are_no_command(rt: HostRuntime) -> Result<(), Fail> {
     let show = words_of(rt.alloc(), "show")?;
-    assert_eq!(rt; command_of(&show), Some(Command::Show));
+    assert_eq!(rt; command_of(rt.alloc(), &show), Ok(Command::Show));
     for text in OTHERS {
         let words = words_of(rt.alloc(), text)?;
-        assert_eq!(rt; command_of(&words), None, "{text}");
+        assert_eq!(rt;
+            command_of(rt.alloc(), &words),
+            Err(WordsFault::Usage),
+            "{text}"
+        );
+    }
+    Ok(())
+}
+
+#[test]
+fn use_is_shown_with_each_option(rt: HostRuntime) -> Result<(), Fail> {
+    let text = usage(rt.alloc())?;
+    for part in [
+        "Usage: ufshpb replay [OPTIONS]",
+        "Usage: ufshpb drive [OPTIONS]",
+        "Usage: ufshpb show",
+        "--blocks <N>",
+        "--mode <MODE>",
+        "--answers",
+    ] {
+        assert!(rt; text.as_str().contains(part), "{part}");
     }
     Ok(())
 }
@@ -285,7 +324,7 @@ fn limits_that_are_not_kept_are_told(rt: HostRuntime) -> Result<(), Fail> {
         ("drive --answers", Limit::Held, ""),
     ] {
         let names = words_of(rt.alloc(), words)?;
-        let text = match geometry_fault(&names, limit) {
+        let text = match geometry_fault(rt.alloc(), &names, limit)? {
             Some(fault) => format!(in rt.alloc(); "{fault}")?,
             None => String::new(rt.alloc()),
         };

@@ -1,16 +1,22 @@
-ghost use Rattle.std.specs.Prelude.{◌≡◌, min, [], map, string_bytes, IfOk, MatchOption};
+//! The words, and what they name.
+ghost use Rattle.std.specs.Prelude.{◌≡◌, ◌≢◌, ◌-◌, ◌*◌, IfErr, IfOk, [], codes, map, min, option_map, slice_get};
+ghost use Rattle.std.specs.Prelude.{string_bytes, true, List, ℕ};
+ghost use Rattle.std.specs.Borrow.{Bor};
 ghost use Rattle.std.specs.Char.{is_ascii_digit};
 ghost use Rattle.std.specs.List.{list_all};
+ghost use Rattle.clap.specs.Words.{app_of, fault_of, first_of, found_of, is_simple_and_free, matches_of, rows_of};
 ghost use Rattle.flash_pages.specs.Chip.{IsWithinLimits, erased_chip};
 ghost use Rattle.flash_pages.specs.MemFlash.{geometry_of, pages_of, plan_of};
 ghost use Rattle.command_words.specs.Limits.{named_numbers, numbers_of};
-ghost use Rattle.command_words.specs.Options.{IsCommand, IsGiven, chip_given, cut_shape, first_said, flag_named};
-ghost use Rattle.command_words.specs.Options.{mode_said, number_said, option_named, unit_given, with_flag, with_value};
-ghost use Rattle.command_words.specs.Options.{with_words};
-ghost use Rattle.command_words.specs.Words.{HasForm, IsDrive, IsPart, IsReplay, IsShow, RunsDevice, is_number};
-ghost use Rattle.command_words.specs.Words.{named_chip};
+ghost use Rattle.command_words.specs.Options.{IsCommand, IsGiven, chip_given, cut_shape, number_said, unit_given};
+ghost use Rattle.command_words.specs.Words.{HasMode, HasNumber, HasValues, IsDrive, IsRead, IsReplay, IsShow};
+ghost use Rattle.command_words.specs.Words.{RunsDevice, drive_app, has_flag, is_number, mode_set, named_chip};
+ghost use Rattle.command_words.specs.Words.{named_unit, number_set, replay_app, rows_in, show_app};
 
+use crate::commands::{drive_command, replay_command, show_command};
 use crate::limits::{NamedNumbers, room};
+use clap::ArgMatches;
+use clap::error::ErrorKind;
 use flash_pages::{Geometry, MemFlash};
 use hpb_outside::NoMemory;
 use region_state::{Mode, Shape};
@@ -31,6 +37,15 @@ pub enum Command {
     Drive(Driven),
     /// To show the lines of a text.
     Show,
+}
+
+/// Why the words ask for nothing.
+#[derive(Clone, Copy, Debug, PartialEq, Eq)]
+pub enum WordsFault {
+    /// They aren't in form.
+    Usage,
+    /// There isn't enough memory to read them.
+    Memory,
 }
 
 /// The chip and the unit that the words name. A number that its field can't hold stands there as the last that it can,
@@ -54,28 +69,9 @@ pub struct Driven {
     pub answers: bool,
 }
 
-/// An option of a command that runs a device.
+/// The values of the options that are set, and whether each flag is.
 #[derive(Clone, Copy)]
-enum OptionName {
-    Blocks,
-    Pages,
-    Units,
-    Region,
-    Sub,
-    Held,
-    Mode,
-}
-
-/// A flag of `drive`.
-#[derive(Clone, Copy)]
-enum Flag {
-    Plain,
-    Answers,
-}
-
-/// The values of the options that were read, and whether each flag was.
-#[derive(Clone, Copy)]
-struct Given {
+pub(crate) struct Given {
     blocks: Option<u32>,
     pages: Option<u32>,
     units: Option<u32>,
@@ -87,212 +83,192 @@ struct Given {
     answers: bool,
 }
 
-/// Nothing was read yet.
-const NOTHING: Given = Given {
-    blocks: None,
-    pages: None,
-    units: None,
-    region: None,
-    sub: None,
-    held: None,
-    mode: None,
-    plain: false,
-    answers: false,
-};
-
-/// The command of the words, or nothing where they aren't in form.
-pub fn command_of(words: &[String]) -> Option<Command>
-    ensures { MatchOption result
-        (¬ IsReplay (map string_bytes words.now) × ¬ IsDrive (map string_bytes words.now)
-        × ¬ IsShow (map string_bytes words.now))
-        (λ command. IsCommand (map string_bytes words.now) command) }
+/// What `clap` reads of the words.
+fn read<'a>(command: clap::Command<'a>, words: &'a [String]) -> Result<ArgMatches<'a>, WordsFault>
+    requires simple { is_simple_and_free (app_of command) ≡ true }
+    ensures read { IfOk result (λ m. (fault_of (app_of command.entry) (map string_bytes words.entry.now) ≡ [])
+        × (rows_of (found_of m) ≡ matches_of (app_of command.entry) (map string_bytes words.entry.now))) }
+    ensures usage { result ≡ Err WordsFault.Usage
+        → fault_of (app_of command.entry) (map string_bytes words.entry.now) ≢ [] }
 {
-    if let Some(given) = replay_of(words) {
-        return Some(Command::Replay(given.named()));
+    match command.try_get_matches_from(words) {
+        Ok(matches) => Ok(matches),
+        Err(error) if error.kind() == ErrorKind::OutOfMemory => Err(WordsFault::Memory),
+        Err(_) => Err(WordsFault::Usage),
     }
-    if let Some(given) = drive_of(words) {
-        return Some(Command::Drive(given.driven()));
-    }
-    let [command, others @ ..] = words else {
-        return None;
-    };
-    if command.as_str() == "show" && others.is_empty() {
-        return Some(Command::Show);
-    }
-    None
 }
 
-/// The numbers that the words name, or nothing where they run no device.
-pub(crate) fn numbers_of(words: &[String]) -> Option<NamedNumbers>
-    ensures { MatchOption result (¬ RunsDevice (map string_bytes words.now))
-        (λ numbers. RunsDevice (map string_bytes words.now)
+/// The command of the words.
+///
+/// It fails with `Usage` exactly where they aren't in form, or with `Memory`.
+pub fn command_of(alloc: Global, words: &[String]) -> Result<Command, WordsFault>
+    ensures command { IfOk result (IsCommand (map string_bytes words.now)) }
+    ensures usage { result ≡ Err WordsFault.Usage → ¬ IsReplay (map string_bytes words.now)
+        × ¬ IsDrive (map string_bytes words.now) × ¬ IsShow (map string_bytes words.now) }
+{
+    let Some(command) = first_word(words) else {
+        return Err(WordsFault::Usage);
+    };
+    match command {
+        "replay" => Ok(Command::Replay(replay_of(alloc, words)?.named())),
+        "drive" => Ok(Command::Drive(drive_of(alloc, words)?.driven())),
+        "show" => show_of(alloc, words),
+        _ => Err(WordsFault::Usage),
+    }
+}
+
+/// The first word.
+fn first_word(words: &[String]) -> Option<&str>
+    ensures { option_map (λ (word : Bor (List ℕ)). word.now) result ≡ slice_get (map string_bytes words.now) 0 }
+{
+    let [word, ..] = words else {
+        return None;
+    };
+    Some(word.as_str())
+}
+
+/// The numbers that the words of a command that runs a device name.
+pub(crate) fn numbers_of(alloc: Global, words: &[String]) -> Result<NamedNumbers, WordsFault>
+    ensures numbers { IfOk result (λ numbers. RunsDevice (map string_bytes words.now)
         × (numbers ≡ named_numbers (map string_bytes words.now))) }
+    ensures usage { result ≡ Err WordsFault.Usage → ¬ RunsDevice (map string_bytes words.now) }
 {
-    let given = given_of(words)?;
-    Some(given.numbers())
+    let given = given_of(alloc, words)?;
+    Ok(given.numbers())
 }
 
-/// What the words of a command that runs a device give, or nothing where they are none.
-fn given_of(words: &[String]) -> Option<Given>
-    ensures { MatchOption result (¬ RunsDevice (map string_bytes words.now))
-        (λ given. RunsDevice (map string_bytes words.now) × IsGiven (map string_bytes words.now) given) }
+/// What the words of a command that runs a device give.
+fn given_of(alloc: Global, words: &[String]) -> Result<Given, WordsFault>
+    ensures given { IfOk result (λ given. RunsDevice (map string_bytes words.now)
+        × IsGiven (rows_in (map string_bytes words.now)) given) }
+    ensures chip { IfOk result (λ given. chip_given given ≡ named_chip (map string_bytes words.now)) }
+    ensures unit { IfOk result (λ given. unit_given given ≡ named_unit (map string_bytes words.now)) }
+    ensures usage { result ≡ Err WordsFault.Usage → ¬ RunsDevice (map string_bytes words.now) }
 {
-    if let Some(given) = replay_of(words) {
-        return Some(given);
-    }
-    drive_of(words)
-}
-
-/// What the words of `replay` give, or nothing where they aren't in form.
-fn replay_of(words: &[String]) -> Option<Given>
-    ensures { MatchOption result (¬ IsReplay (map string_bytes words.now))
-        (λ given. IsReplay (map string_bytes words.now) × IsGiven (map string_bytes words.now) given) }
-{
-    let given = given_behind("replay", words)?;
-    if given.plain || given.answers {
-        return None;
-    }
-    Some(given)
-}
-
-/// What the words of `drive` give, or nothing where they aren't in form.
-fn drive_of(words: &[String]) -> Option<Given>
-    ensures { MatchOption result (¬ IsDrive (map string_bytes words.now))
-        (λ given. IsDrive (map string_bytes words.now) × IsGiven (map string_bytes words.now) given) }
-{
-    given_behind("drive", words)
-}
-
-/// What the words behind this command give, or nothing where they aren't in form.
-fn given_behind(name: &str, words: &[String]) -> Option<Given>
-    ensures { MatchOption result (¬ HasForm name.now IsPart (map string_bytes words.now))
-        (λ given. HasForm name.now IsPart (map string_bytes words.now) × IsGiven (map string_bytes words.now) given) }
-{
-    let [command, others @ ..] = words else {
-        return None;
+    let Some(command) = first_word(words) else {
+        return Err(WordsFault::Usage);
     };
-    if command.as_str() == name {
-        return read_words(others);
-    }
-    None
-}
-
-/// The options, values and flags of these words, or nothing where they aren't in form.
-#[tactic(auto, unfolding(crate::specs::Options::with_words))]
-fn read_words(words: &[String]) -> Option<Given>
-    ensures { result ≡ with_words NOTHING (map string_bytes words.now) }
-{
-    let mut given = NOTHING;
-    let mut rest = words;
-    while let [name, more @ ..] = rest {
-        if let Some(flag) = flag_named(name) {
-            given = given.with_flag(flag)?;
-            rest = more;
-            continue;
-        }
-        let [value, others @ ..] = more else {
-            return None;
-        };
-        given = given.with(option_named(name)?, value)?;
-        rest = others;
-    }
-    Some(given)
-}
-
-/// The flag of this name.
-#[tactic(auto, unfolding(crate::specs::Options::flag_named))]
-fn flag_named(name: &str) -> Option<Flag>
-    ensures { result ≡ flag_named name.now }
-{
-    match name {
-        "--plain" => Some(Flag::Plain),
-        "--answers" => Some(Flag::Answers),
-        _ => None,
+    match command {
+        "replay" => replay_of(alloc, words),
+        "drive" => drive_of(alloc, words),
+        _ => Err(WordsFault::Usage),
     }
 }
 
-/// The option of this name.
-#[tactic(auto, unfolding(crate::specs::Options::option_named))]
-fn option_named(name: &str) -> Option<OptionName>
-    ensures { result ≡ option_named name.now }
+/// What the words behind `replay` give.
+fn replay_of(alloc: Global, words: &[String]) -> Result<Given, WordsFault>
+    ensures given { IfOk result (λ given. IsRead replay_app (map string_bytes words.now)
+        × IsGiven (matches_of replay_app (map string_bytes words.now)) given) }
+    ensures usage { result ≡ Err WordsFault.Usage → ¬ IsRead replay_app (map string_bytes words.now) }
 {
-    match name {
-        "--blocks" => Some(OptionName::Blocks),
-        "--pages" => Some(OptionName::Pages),
-        "--units" => Some(OptionName::Units),
-        "--region" => Some(OptionName::Region),
-        "--sub" => Some(OptionName::Sub),
-        "--held" => Some(OptionName::Held),
-        "--mode" => Some(OptionName::Mode),
-        _ => None,
+    let Ok(command) = replay_command(alloc) else {
+        return Err(WordsFault::Memory);
+    };
+    given_by(command, words)
+}
+
+/// What the words behind `drive` give.
+fn drive_of(alloc: Global, words: &[String]) -> Result<Given, WordsFault>
+    ensures given { IfOk result (λ given. IsRead drive_app (map string_bytes words.now)
+        × IsGiven (matches_of drive_app (map string_bytes words.now)) given) }
+    ensures usage { result ≡ Err WordsFault.Usage → ¬ IsRead drive_app (map string_bytes words.now) }
+{
+    let Ok(command) = drive_command(alloc) else {
+        return Err(WordsFault::Memory);
+    };
+    given_by(command, words)
+}
+
+/// `show`, where nothing stands behind it.
+fn show_of(alloc: Global, words: &[String]) -> Result<Command, WordsFault>
+    ensures show { IfOk result (λ command. (command ≡ Command.Show)
+        × (fault_of show_app (map string_bytes words.now) ≡ [])) }
+    ensures usage { result ≡ Err WordsFault.Usage → fault_of show_app (map string_bytes words.now) ≢ [] }
+{
+    let _matches = read(show_command(alloc), words)?;
+    Ok(Command::Show)
+}
+
+/// What the words give to a command that runs a device.
+fn given_by<'a>(command: clap::Command<'a>, words: &'a [String]) -> Result<Given, WordsFault>
+    requires simple { is_simple_and_free (app_of command) ≡ true }
+    ensures given { IfOk result (λ given. IsRead (app_of command.entry) (map string_bytes words.entry.now)
+        × IsGiven (matches_of (app_of command.entry) (map string_bytes words.entry.now)) given) }
+    ensures usage { result ≡ Err WordsFault.Usage
+        → ¬ IsRead (app_of command.entry) (map string_bytes words.entry.now) }
+{
+    given_in(&read(command, words)?)
+}
+
+/// What the matches give, or `Usage` where a value isn't of its form.
+fn given_in(matches: &ArgMatches<'_>) -> Result<Given, WordsFault>
+    ensures given { IfOk result (λ given. HasValues (rows_of (found_of matches.now))
+        × IsGiven (rows_of (found_of matches.now)) given) }
+    ensures usage { IfErr result (λ fault. (fault ≡ WordsFault.Usage)
+        × ¬ HasValues (rows_of (found_of matches.now))) }
+{
+    Ok(Given {
+        blocks: number_in(matches, "blocks")?,
+        pages: number_in(matches, "pages")?,
+        units: number_in(matches, "units")?,
+        region: number_in(matches, "region")?,
+        sub: number_in(matches, "sub")?,
+        held: number_in(matches, "held")?,
+        mode: mode_in(matches)?,
+        plain: is_flag_set(matches, "plain"),
+        answers: is_flag_set(matches, "answers"),
+    })
+}
+
+/// The value of an option or a flag.
+fn value_of<'a>(matches: &ArgMatches<'a>, name: &str) -> Option<&'a str>
+    ensures { option_map (λ (value : Bor (List ℕ)). value.now) result ≡ first_of name.now (rows_of (found_of matches.now)) }
+{
+    matches.get_str(name)
+}
+
+/// The number that is set for an option.
+#[tactic(auto, unfolding(crate::specs::Options::number_said))]
+fn number_in(matches: &ArgMatches<'_>, option: &str) -> Result<Option<u32>, WordsFault>
+    ensures number { IfOk result (λ number. HasNumber (rows_of (found_of matches.now)) option.now
+        × (number ≡ number_set (rows_of (found_of matches.now)) option.now)) }
+    ensures usage { IfErr result (λ fault. (fault ≡ WordsFault.Usage)
+        × ¬ HasNumber (rows_of (found_of matches.now)) option.now) }
+{
+    let Some(value) = value_of(matches, option) else {
+        return Ok(None);
+    };
+    match number_said(value) {
+        Some(number) => Ok(Some(number)),
+        None => Err(WordsFault::Usage),
     }
+}
+
+/// The mode that is set.
+fn mode_in(matches: &ArgMatches<'_>) -> Result<Option<Mode>, WordsFault>
+    ensures mode { IfOk result (λ mode. HasMode (rows_of (found_of matches.now))
+        × (mode ≡ mode_set (rows_of (found_of matches.now)))) }
+    ensures usage { IfErr result (λ fault. (fault ≡ WordsFault.Usage)
+        × ¬ HasMode (rows_of (found_of matches.now))) }
+{
+    let Some(value) = value_of(matches, "mode") else {
+        return Ok(None);
+    };
+    match value {
+        "device" => Ok(Some(Mode::Device)),
+        "host" => Ok(Some(Mode::Host)),
+        _ => Err(WordsFault::Usage),
+    }
+}
+
+/// Whether a flag is set.
+fn is_flag_set(matches: &ArgMatches<'_>, name: &str) -> bool
+    ensures { result ≡ has_flag (rows_of (found_of matches.now)) name.now }
+{
+    value_of(matches, name).is_some_and(|value| value == "true")
 }
 
 impl Given {
-    /// With the value of one more option, or nothing where the option has one already, or the value isn't of its form.
-    #[tactic(auto, unfolding(crate::specs::Options::with_value))]
-    fn with(self, option: OptionName, value: &str) -> Option<Given>
-        ensures { result ≡ with_value self option value.now }
-    {
-        match option {
-            OptionName::Blocks => Some(Given {
-                blocks: Some(first_number(self.blocks, value)?),
-                ..self
-            }),
-            OptionName::Pages => Some(Given {
-                pages: Some(first_number(self.pages, value)?),
-                ..self
-            }),
-            OptionName::Units => Some(Given {
-                units: Some(first_number(self.units, value)?),
-                ..self
-            }),
-            OptionName::Region => Some(Given {
-                region: Some(first_number(self.region, value)?),
-                ..self
-            }),
-            OptionName::Sub => Some(Given {
-                sub: Some(first_number(self.sub, value)?),
-                ..self
-            }),
-            OptionName::Held => Some(Given {
-                held: Some(first_number(self.held, value)?),
-                ..self
-            }),
-            OptionName::Mode => Some(Given {
-                mode: Some(first_mode(self.mode, value)?),
-                ..self
-            }),
-        }
-    }
-
-    /// With one more flag, or nothing where it was read already.
-    #[tactic(auto, unfolding(crate::specs::Options::with_flag))]
-    fn with_flag(self, flag: Flag) -> Option<Given>
-        ensures { result ≡ with_flag self flag }
-    {
-        match flag {
-            Flag::Plain => {
-                if self.plain {
-                    return None;
-                }
-                Some(Given {
-                    plain: true,
-                    ..self
-                })
-            }
-            Flag::Answers => {
-                if self.answers {
-                    return None;
-                }
-                Some(Given {
-                    answers: true,
-                    ..self
-                })
-            }
-        }
-    }
-
     /// What is named, with the flags.
     fn driven(self) -> Driven
         ensures { result ≡ record {
@@ -355,16 +331,6 @@ fn cut(number: u32) -> u8
     u8::try_from(number).unwrap_or(u8::MAX)
 }
 
-/// A number where there was none before.
-fn first_number(before: Option<u32>, word: &str) -> Option<u32>
-    ensures { result ≡ first_said before (number_said word.now) }
-{
-    if before.is_some() {
-        return None;
-    }
-    number_said(word)
-}
-
 /// One to nine decimal digits, as a number.
 #[tactic(auto, unfolding(crate::specs::Options::number_said))]
 fn number_said(word: &str) -> Option<u32>
@@ -392,21 +358,6 @@ fn has_only_digits(word: &[u8]) -> bool
     word.iter().all(|c| c.is_ascii_digit())
 }
 
-/// A mode where there was none before.
-#[tactic(auto, unfolding(crate::specs::Options::mode_said))]
-fn first_mode(before: Option<Mode>, word: &str) -> Option<Mode>
-    ensures { result ≡ first_said before (mode_said word.now) }
-{
-    if before.is_some() {
-        return None;
-    }
-    match word {
-        "device" => Some(Mode::Device),
-        "host" => Some(Mode::Host),
-        _ => None,
-    }
-}
-
 /// An erased chip whose calls don't fail: the one that the words of a command that runs a device name, where its
 /// geometry is within its limits, else of 4 erase blocks of 2 pages. It fails where there isn't enough memory.
 pub fn chip_of(alloc: Global, words: &[String]) -> Result<MemFlash, NoMemory>
@@ -418,21 +369,28 @@ pub fn chip_of(alloc: Global, words: &[String]) -> Result<MemFlash, NoMemory>
         → IfOk result (λ flash. geometry_of flash ≡ record { blocks = 4; pages = 2 }) }
     ensures faultless { IfOk result (λ flash. (plan_of flash).fail_at ≡ []) }
 {
-    MemFlash::new(alloc, named_geometry(words), Vec::new(alloc))
+    let geometry = named_geometry(alloc, words)?;
+    MemFlash::new(alloc, geometry, Vec::new(alloc))
 }
 
 /// The geometry that the words name, where they run a device and it is within its limits, else the least.
-fn named_geometry(words: &[String]) -> Geometry
-    ensures limits { IsWithinLimits result }
+fn named_geometry(alloc: Global, words: &[String]) -> Result<Geometry, NoMemory>
+    ensures limits { IfOk result IsWithinLimits }
     ensures named { RunsDevice (map string_bytes words.now) → IsWithinLimits (named_chip (map string_bytes words.now))
-        → result ≡ named_chip (map string_bytes words.now) }
+        → IfOk result (λ geometry. geometry ≡ named_chip (map string_bytes words.now)) }
     ensures least { ¬ (RunsDevice (map string_bytes words.now)
         × IsWithinLimits (named_chip (map string_bytes words.now)))
-        → result ≡ record { blocks = 4; pages = 2 } }
+        → IfOk result (λ geometry. geometry ≡ record { blocks = 4; pages = 2 }) }
 {
-    let Some(given) = given_of(words) else {
-        return LEAST;
+    let given = match given_of(alloc, words) {
+        Ok(given) => given,
+        Err(WordsFault::Usage) => return Ok(LEAST),
+        Err(WordsFault::Memory) => return Err(NoMemory),
     };
     let chip = given.named().chip;
-    if chip.is_within_limits() { chip } else { LEAST }
+    if chip.is_within_limits() {
+        Ok(chip)
+    } else {
+        Ok(LEAST)
+    }
 }

@@ -8,7 +8,7 @@ mod replay;
 mod show;
 
 pub use command_words::{
-    GeometryFault, Limit, NamedNumbers, chip_of, each_refusal_is_told, geometry_fault,
+    GeometryFault, Limit, NamedNumbers, chip_of, each_refusal_is_told, geometry_fault, usage,
 };
 pub use program::run;
 pub use run_output::{Outcome, Status};

@@ -27,7 +27,7 @@ ghost use Rattle.trace_replay.specs.FlatAnswers.{AnswersFlat};
 use crate::driving::run_drive;
 use crate::replay::{Buffers, take_turn};
 use crate::show::show;
-use command_words::{Command, Named, command_of};
+use command_words::{Command, Named, WordsFault, command_of};
 use flash_pages::Flash;
 use hpb_device::Device;
 use hpb_outside::{Failed, NewFault, Sink, Source};
@@ -160,14 +160,18 @@ fn run_command<S: Source, K: Sink, F: Flash>(
     ensures source_faults { SourceEnds (S.faults source.old) (S.faults source.new) result.status }
     ensures sink_faults { SinkEnds (K.faults sink.old) (K.faults sink.new) result.status }
 {
-    match command_of(words) {
-        Some(Command::Replay(named)) => run_replay(alloc, named, source, sink, flash),
-        Some(Command::Drive(driven)) => run_drive(alloc, driven, source, sink, flash),
-        Some(Command::Show) => {
+    match command_of(alloc, words) {
+        Ok(Command::Replay(named)) => run_replay(alloc, named, source, sink, flash),
+        Ok(Command::Drive(driven)) => run_drive(alloc, driven, source, sink, flash),
+        Ok(Command::Show) => {
             let status = run_show(alloc, source, sink);
             Outcome { status, flash }
         }
-        None => refused(sink, Status::Usage, b"E usage\n", flash),
+        Err(WordsFault::Usage) => refused(sink, Status::Usage, b"E usage\n", flash),
+        Err(WordsFault::Memory) => {
+            let status = Status::Memory;
+            Outcome { status, flash }
+        }
     }
 }
 

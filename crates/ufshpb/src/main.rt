@@ -7,26 +7,7 @@ use std::alloc::Global;
 use std::env::{Env, FillError};
 use std::process::ExitCode;
 use std::{env, io};
-use trace_replay::{Limit, Status, chip_of, geometry_fault, run};
-
-/// How the program is used.
-const USAGE: &str = "\
-usage: ufshpb replay [OPTIONS]   replays a trace from standard input
-       ufshpb drive [OPTIONS]    drives a device by the requests from standard input
-       ufshpb show               shows each line of a trace or a transcript
-
-Options of replay and drive, each at most once, each with its value as the next word:
-  --blocks N   erase blocks of the chip, 4 to 4096 (default 64)
-  --pages N    pages of an erase block, 2 to 256, at most 65536 in all (default 64)
-  --units N    blocks of the logical unit, 1 to (blocks - 3) * pages (default (blocks - 3) * pages)
-  --region N   a region has 512 bytes times 2 to this power, 3 to 19 (default 10)
-  --sub N      a subregion likewise, 3 to that of a region (default 8)
-  --held N     regions that the host may hold, 1 to 32 (default 4)
-  --mode M     who decides which regions these are, device or host (default device)
-
-Options of drive alone, each at most once and without a value:
-  --plain      drives without a cache of the map: each read goes out without an entry
-  --answers    prints the ends of the requests and the counts alone";
+use trace_replay::{Limit, Status, chip_of, geometry_fault, run, usage};
 
 fn main(rt: HostRuntime) -> ExitCode {
     let alloc = rt.alloc();
@@ -50,13 +31,16 @@ fn main(rt: HostRuntime) -> ExitCode {
 
 /// Tells on standard error what is wrong with the words, where they are refused. What can't be written there is let go.
 fn tell_fault(rt: &HostRuntime, words: &[String], status: Status) {
+    let alloc = rt.alloc();
     match status {
         Status::Usage => {
-            let _ = rt.eprintln(USAGE);
+            if let Ok(text) = usage(alloc) {
+                let _ = rt.eprint(text.as_str());
+            }
         }
         Status::Geometry => {
             for limit in Limit::ALL {
-                if let Some(fault) = geometry_fault(words, limit) {
+                if let Ok(Some(fault)) = geometry_fault(alloc, words, limit) {
                     let _ = rt.eprintln(fault);
                 }
             }

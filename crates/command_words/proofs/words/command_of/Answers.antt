@@ -1,11 +1,15 @@
-use Rattle.std.proofs.Common.{List, ℕ, ◌∷◌, ◌-◌, codes, length, drop, map, take, sym, ◌∙◌, ap}
-use Rattle.std.specs.Prelude.{string_bytes}
-use Rattle.command_words.proofs.Forms.{none_left, one_first, word_is}
+use Rattle.std.proofs.Common.{◌∙◌, ap, sym, Some}
+use Rattle.std.specs.Prelude.{option_map, List, ℕ}
+use Rattle.std.specs.Borrow.{Bor}
+use Rattle.command_words.proofs.Reading.{drive_named, replay_named}
 use Rattle.command_words.proofs.words.command_of.Goals as goal
 
-pub returns-then-is_empty : goal.returns-then-is_empty
-returns-then-is_empty c =
-    let words = one_first string_bytes c.args.words.now c.command-item.result c.in-len1-up.len_at_least c.command-item.is in
-    let word = word_is (string_bytes c.command-item.result) (codes "show") c.as_str.result.now c.eq.result c.as_str.ensures.value c.eq.ensures c.if-eq.true in
-    words ∙ ap (λ (w : List ℕ). w ∷ map string_bytes (take (length c.args.words.now - 1) (drop 1 c.args.words.now))) word
-    ∙ ap (λ (ws : List (List ℕ)). codes "show" ∷ ws) (none_left string_bytes (take (length c.args.words.now - 1) (drop 1 c.args.words.now)) (sym c.is_empty.ensures ∙ c.if-is_empty.true))
+pub returns-in_ok-replay_of-in-replay-clause-command : goal.returns-in_ok-replay_of-in-replay-clause-command
+returns-in_ok-replay_of-in-replay-clause-command c =
+    let first = sym c.first_word.ensures ∙ ap (option_map (λ (word : Bor (List ℕ)). word.now)) c.in-Some.is ∙ ap Some c.in-replay.is in
+    replay_named _ c.in_ok-replay_of-in-replay.field-0 _ first c.in_ok-replay_of-in-replay.ensures.given c.named.ensures
+
+pub returns-in_ok-drive_of-in-drive-clause-command : goal.returns-in_ok-drive_of-in-drive-clause-command
+returns-in_ok-drive_of-in-drive-clause-command c =
+    let first = sym c.first_word.ensures ∙ ap (option_map (λ (word : Bor (List ℕ)). word.now)) c.in-Some.is ∙ ap Some c.in-drive.is in
+    drive_named _ c.in_ok-drive_of-in-drive.field-0 _ first c.in_ok-drive_of-in-drive.ensures.given c.driven.ensures

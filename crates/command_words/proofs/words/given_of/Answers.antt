@@ -1,0 +1,35 @@
+use Rattle.std.proofs.Common.{◌∙◌, ap, sym, Some}
+use Rattle.std.specs.Prelude.{option_map, List, ℕ}
+use Rattle.std.specs.Borrow.{Bor}
+use Rattle.command_words.proofs.Reading.{chip_named, drive_runs, replay_runs, unit_named}
+use Rattle.command_words.proofs.words.given_of.Goals as goal
+
+pub returns-in-replay-clause-given : goal.returns-in-replay-clause-given
+returns-in-replay-clause-given c =
+    let first = sym c.first_word.ensures ∙ ap (option_map (λ (word : Bor (List ℕ)). word.now)) c.in-Some.is ∙ ap Some c.in-replay.is in
+    replay_runs _ c.replay_of.result first c.replay_of.ensures.given
+
+pub returns-in-drive-clause-given : goal.returns-in-drive-clause-given
+returns-in-drive-clause-given c =
+    let first = sym c.first_word.ensures ∙ ap (option_map (λ (word : Bor (List ℕ)). word.now)) c.in-Some.is ∙ ap Some c.in-drive.is in
+    drive_runs _ c.drive_of.result first c.drive_of.ensures.given
+
+pub returns-in-replay-clause-chip : goal.returns-in-replay-clause-chip
+returns-in-replay-clause-chip c =
+    let first = sym c.first_word.ensures ∙ ap (option_map (λ (word : Bor (List ℕ)). word.now)) c.in-Some.is ∙ ap Some c.in-replay.is in
+    chip_named _ c.replay_of.result (replay_runs _ c.replay_of.result first c.replay_of.ensures.given)
+
+pub returns-in-replay-clause-unit : goal.returns-in-replay-clause-unit
+returns-in-replay-clause-unit c =
+    let first = sym c.first_word.ensures ∙ ap (option_map (λ (word : Bor (List ℕ)). word.now)) c.in-Some.is ∙ ap Some c.in-replay.is in
+    unit_named _ c.replay_of.result (replay_runs _ c.replay_of.result first c.replay_of.ensures.given)
+
+pub returns-in-drive-clause-chip : goal.returns-in-drive-clause-chip
+returns-in-drive-clause-chip c =
+    let first = sym c.first_word.ensures ∙ ap (option_map (λ (word : Bor (List ℕ)). word.now)) c.in-Some.is ∙ ap Some c.in-drive.is in
+    chip_named _ c.drive_of.result (drive_runs _ c.drive_of.result first c.drive_of.ensures.given)
+
+pub returns-in-drive-clause-unit : goal.returns-in-drive-clause-unit
+returns-in-drive-clause-unit c =
+    let first = sym c.first_word.ensures ∙ ap (option_map (λ (word : Bor (List ℕ)). word.now)) c.in-Some.is ∙ ap Some c.in-drive.is in
+    unit_named _ c.drive_of.result (drive_runs _ c.drive_of.result first c.drive_of.ensures.given)

@@ -5,7 +5,7 @@ use Rattle.std.specs.Str.{bytes_eq}
 use Rattle.std.proofs.lemmas.Bool.{false≢true}
 use Rattle.command_words.specs.Words.{IsDrive, IsReplay, IsShow}
 
-is_word : List ℕ → Option (List ℕ) → Bool
+abbrev is_word : List ℕ → Option (List ℕ) → Bool
 is_word word first = option_map_or (λ (w : List ℕ). bytes_eq w word) first false
 
 pub replay_no_show : (words : List (List ℕ)) → IsReplay words → ¬ IsShow words

@@ -95,7 +95,7 @@ program_of : (served : Type 0) (s : Sizes) (machine : Machine) (only : Bool) (go
     (status : Status) → served → DriveIs s machine only good counted left left_now w w_now limit status
     → DriveProgramIs served s machine only good counted same left left_now w w_now limit status
 program_of served s machine only good counted same left left_now w w_now limit WriteFault is run = inr (is, run)
-program_of served s machine only good counted same left left_now w w_now limit Memory is run = (is, inr run)
+program_of served s machine only good counted same left left_now w w_now limit Memory is run = inr (is, run)
 program_of served s machine only good counted same left left_now w w_now limit BadGeometry is run = absurd run
 program_of served s machine only good counted same left left_now w w_now limit _ is run = (is, run)
 
@@ -164,7 +164,7 @@ drive_of_link served unit cut geometry device link plain only pages back faults 
     (inl (starved, unread, unwritten, stays)) =
     subst (λ (x : Status). DriveProgramIs served (sizes_on unit geometry) (machine_begun plain unit 1) only (λ (d : Drive). IsTranscript unit geometry faults faults_back pages back d.progress)
     (λ (d : Drive). AreCountsOn unit geometry pages d.progress) ((source_now ≡ source) × (back ≡ pages)) left left_now w w_now limit x) (sym starved)
-    (is, inl ((unread, stays ∙ (ap (λ (l : LinkState). l.device.store.pages) link_is ∙ fresh.pages_are)), unwritten))
+    (inl ((unread, stays ∙ (ap (λ (l : LinkState). l.device.store.pages) link_is ∙ fresh.pages_are)), unwritten))
 drive_of_link served unit cut geometry device link plain only pages back faults faults_back source source_now left left_now w w_now limit status is cut_is fresh link_is
     (inr (now, run, pages_are, faults_are)) =
     drive_of_chip served unit geometry device (machine_begun plain unit 1) only pages faults is fresh ((source_now ≡ source) × (back ≡ pages)) left left_now w w_now limit now back faults_back status

@@ -79,7 +79,7 @@ planned_run : (words : List (List ℕ)) (geometry : Geometry) (good : Progress �
     → ((status ≡ Memory) × (w_now ≡ w)) ⊎ RunIs (sizes_on (named_unit words) geometry) good counted left left_now w w_now limit status
 planned_run words geometry good counted same left left_now w w_now limit Usage (replay, named) (other, _, _) = absurd (other replay)
 planned_run words geometry good counted same left left_now w w_now limit BadGeometry (replay, named) (_, other, _, _) = absurd (other named)
-planned_run words geometry good counted same left left_now w w_now limit Memory planned (_, _, none) = inl (refl, none)
+planned_run words geometry good counted same left left_now w w_now limit Memory planned (_, none) = inl (refl, none)
 planned_run words geometry good counted same left left_now w w_now limit WriteFault (replay, named) (inl (text, inl (other, _), _, _)) = absurd (other replay)
 planned_run words geometry good counted same left left_now w w_now limit WriteFault (replay, named) (inl (text, inr (_, other, _), _, _)) = absurd (other named)
 planned_run words geometry good counted same left left_now w w_now limit WriteFault planned (inr (_, run)) = inr run

@@ -40,8 +40,8 @@ abbrev pub DriveProgramIs : (served : Type 0) → Sizes → Machine → (only : 
 DriveProgramIs served s machine only good counted same left left_now written written_now limit BadGeometry =
     ¬ served × same × Appends written written_now geometry_text
 DriveProgramIs served s machine only good counted same left left_now written written_now limit Memory =
-    served × ((same × (written_now ≡ written))
-    ⊎ DriveIs s machine only good counted left left_now written written_now limit Memory)
+    (same × (written_now ≡ written))
+    ⊎ (served × DriveIs s machine only good counted left left_now written written_now limit Memory)
 DriveProgramIs served s machine only good counted same left left_now written written_now limit WriteFault =
     (¬ served × same × AppendsFront written written_now geometry_text)
     ⊎ (served × DriveIs s machine only good counted left left_now written written_now limit WriteFault)

@@ -133,7 +133,7 @@ ProgramIs words geometry good counted same left left_now written written_now lim
 ProgramIs words geometry good counted same left left_now written written_now limit BadGeometry =
     IsReplay words × ¬ IsNamed words geometry × same × Appends written written_now geometry_text
 ProgramIs words geometry good counted same left left_now written written_now limit Memory =
-    IsPlanned words geometry × same × (written_now ≡ written)
+    same × (written_now ≡ written)
 ProgramIs words geometry good counted same left left_now written written_now limit WriteFault =
     ((text : List ℕ) × IsRefusedRun words geometry text × same × AppendsFront written written_now text)
     ⊎ (IsPlanned words geometry

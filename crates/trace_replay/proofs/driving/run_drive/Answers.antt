@@ -52,6 +52,4 @@ returns-in-Ok-link_of-clause-run g c unit unit_is =
 pub returns-in-Err-clause-run : goal.returns-in-Err-clause-run
 returns-in-Err-clause-run g c unit unit_is =
     let made = c.in-Ok.ensures in
-    let (served, same) = serves_unit c.args.driven.named.chip (g.F.Flash.geometry c.args.flash) unit c.args.driven.named.unit unit_is
-    (sym c.geometry.ensures ∙ same_chip _ _ _ c.ne.ensures c.if-ne.false) made.begun in
-    (served, inl ((refl, c.into_flash.ensures.pages ∙ (ap (λ (d : DeviceState). d.store.pages) c.in-Err.ensures.back ∙ made.pages)), refl))
+    inl ((refl, c.into_flash.ensures.pages ∙ (ap (λ (d : DeviceState). d.store.pages) c.in-Err.ensures.back ∙ made.pages)), refl)

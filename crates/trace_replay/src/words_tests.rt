@@ -16,8 +16,9 @@ fn run_over(alloc: Global, words: &str, text: &str) -> Result<Ran, Fail> {
 }
 
 /// Words in form.
-const SERVED: [&str; 10] = [
+const SERVED: [&str; 11] = [
     "replay --blocks 8 --pages 4",
+    "replay --blocks=8 --pages=4 --",
     "replay --blocks 8 --pages 4 --units 20",
     "replay --blocks 8 --pages 4 --region 19",
     "replay --blocks 8 --pages 4 --held 32",
@@ -35,7 +36,7 @@ const OTHERS: [&str; 10] = [
     "replays",
     "show --mode host",
     "replay 8",
-    "replay --blocks=8 --pages=4",
+    "replay --blocks= --pages=4",
     "replay --size 8",
     "replay --held 4 --held 5",
     "replay --mode Host",

@@ -1,0 +1,5 @@
+pub mod Bytes
+pub mod Dumping
+pub mod Laying
+pub mod Loading
+pub mod Numbers

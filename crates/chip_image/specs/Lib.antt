@@ -1,0 +1,4 @@
+pub mod Image
+pub mod Load
+pub mod Steps
+pub mod Transfer

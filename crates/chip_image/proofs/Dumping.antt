@@ -41,7 +41,8 @@ whole_image geometry chip n =
 abbrev pub IsDumpedTo : (geometry : Geometry) (chip : List Page) (written written_now : Option (List ℕ)) (n : ℕ) → Type 0
 IsDumpedTo geometry chip written written_now n = Appends written written_now (image_of Two geometry (take n chip))
 
-pub dump_begun : (geometry : Geometry) (chip : List Page) (written written_now : Option (List ℕ)) → Appends written written_now (magic Two ++ shape_bytes geometry) → IsDumpedTo geometry chip written written_now 0
+pub dump_begun : (geometry : Geometry) (chip : List Page) (written written_now : Option (List ℕ)) → Appends written written_now (magic Two ++ shape_bytes geometry)
+    → IsDumpedTo geometry chip written written_now 0
 dump_begun geometry chip written written_now = subst (Appends written written_now) (sym (append-nil (magic Two ++ shape_bytes geometry)))
 
 pub dump_more : (geometry : Geometry) (chip : List Page) (a b c : Option (List ℕ)) (n : ℕ) → n < length chip → IsDumpedTo geometry chip a b n → Appends b c (page_bytes Two (page_at chip n))

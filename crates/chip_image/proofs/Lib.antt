@@ -3,3 +3,4 @@ pub mod Dumping
 pub mod Laying
 pub mod Loading
 pub mod Numbers
+pub mod OneChip

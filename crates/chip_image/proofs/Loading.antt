@@ -74,7 +74,8 @@ all_loaded geometry old new left left_now version n r to whole =
 same_fault : {A : Type 0} (fault other : ImageFault) (r : Result A ImageFault) → r ≡ Err fault → r ≡ Err other → fault ≡ other
 same_fault fault other r is too = cc
 
-pub version_no_chip : {A : Type 0} (n : ℕ) (left left_now : Option (List ℕ)) (fault : ImageFault) (r : Result A ImageFault) → r ≡ Err fault → ReadsVersion left left_now (Err fault) → RoseOnlyAt n n ChipFault r
+pub version_no_chip : {A : Type 0} (n : ℕ) (left left_now : Option (List ℕ)) (fault : ImageFault) (r : Result A ImageFault) → r ≡ Err fault → ReadsVersion left left_now (Err fault)
+    → RoseOnlyAt n n ChipFault r
 version_no_chip n left left_now fault r is reads = (λ too. absurd (none (subst (λ (f : ImageFault). ReadsVersion left left_now (Err f)) (same_fault fault ChipFault r is too) reads)), λ _. refl)
   where
     none : ReadsVersion left left_now (Err ChipFault) → ⊥

@@ -1,4 +1,5 @@
 pub mod Image
+pub mod Laws
 pub mod Load
 pub mod Steps
 pub mod Transfer

@@ -71,6 +71,7 @@ fn dump(
 
 #[test]
 fn images_are_read_back(rt: HostRuntime) -> Result<(), Fail> {
+    one_chip();
     let wanted = image_of(rt.alloc(), "UFSHPBI2", 4)?;
     for magic in ["UFSHPBI1", "UFSHPBI2"] {
         let mut flash = chip_of(rt.alloc(), 0)?;

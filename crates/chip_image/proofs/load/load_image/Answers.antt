@@ -57,7 +57,8 @@ returns-in_err-load_page-clause-loads g c =
     let same : c.from_residual-in_err-load_page.result ≡ Err c.in_err-load_page.field-0.0 = search rules in
     let to = c.loop-page.invariant.loaded in
     let end = ap (λ (x : Geometry). x.blocks * x.pages) c.geometry-geometry.ensures in
-    subst (λ (r : Result (Unit {0}) ImageFault). Loads (g.F.Flash.geometry c.args.flash.now) (g.F.Flash.pages c.args.flash.now) (g.F.Flash.pages c.load_page.new.flash) (g.S.Source.left c.args.source.now)
+    subst (λ (r : Result (Unit {0}) ImageFault). Loads (g.F.Flash.geometry c.args.flash.now) (g.F.Flash.pages c.args.flash.now) (g.F.Flash.pages c.load_page.new.flash)
+    (g.S.Source.left c.args.source.now)
     (g.S.Source.left c.load_page.new.source) r) (sym same)
     (page_fault _ _ _ _ _ _ _ c.in_ok-version.version c.loop-page.page c.in_err-load_page.field-0.0 to (omega (arith, end, c.loop-page-test.true))
     (c.in_err-load_page.ensures.lays (g.F.Flash.geometry c.args.flash.now) (g.F.Flash.pages c.args.flash.now) to.pages to.count to.laid))

@@ -1,6 +1,6 @@
 //! Images that are written and loaded.
 use super::*;
-use flash_pages::{BLOCK_BYTES, Flash, Geometry, MemFlash, PageView};
+use flash_pages::{BLOCK_BYTES, Flash, Geometry, MemFlash};
 use hpb_outside::{MemSink, MemSource};
 use std::alloc::Global;
 use std::test::*;
@@ -88,7 +88,7 @@ fn images_are_read_back(rt: HostRuntime) -> Result<(), Fail> {
         );
         let (written, sink) = dump(rt.alloc(), 100, &mut flash)?;
         assert_eq!(rt; written, Err(DumpFault::WriteFault), "{magic}");
-        assert!(rt; sink.bytes() == &wanted[..100], "{magic}");
+        assert!(rt; sink.bytes() == wanted.get(..100).unwrap_or(&[]), "{magic}");
     }
     let mut flash = chip_of(rt.alloc(), 3)?;
     let (written, sink) = dump(rt.alloc(), 40_000, &mut flash)?;
@@ -142,7 +142,7 @@ fn images_are_refused(rt: HostRuntime) -> Result<(), Fail> {
         8237,
         8238,
         8242,
-        image.len() - 1,
+        image.len().saturating_sub(1),
     ] {
         let mut flash = chip_of(rt.alloc(), 0)?;
         let front = image.get(..cut).unwrap_or(&[]);
@@ -152,9 +152,9 @@ fn images_are_refused(rt: HostRuntime) -> Result<(), Fail> {
             "{cut}"
         );
         // The first page is programmed where it had come whole.
-        flash.read(0)?;
-        let erased = matches!(flash.shown(), PageView::Erased);
-        assert_eq!(rt; erased, cut < 4126, "{cut}");
+        let (_, sink) = dump(rt.alloc(), 40_000, &mut flash)?;
+        let kind = sink.bytes().get(16).copied();
+        assert_eq!(rt; kind, Some(u8::from(cut >= 4126)), "{cut}");
     }
     Ok(())
 }

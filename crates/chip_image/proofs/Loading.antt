@@ -52,18 +52,18 @@ one_more geometry old now new left mid left_now version n r to (page, taken, tol
 pub version_fault : (geometry : Geometry) (old : List Page) (left left_now : Option (List ℕ)) (fault : ImageFault) → 0 < geometry.blocks * geometry.pages
     → ReadsVersion left left_now (Err fault) → Loads geometry old old left left_now (Err fault)
 version_fault geometry old left left_now fault some (bytes, taken, cause) =
-    (InMagic bytes, record { taken = taken; laid = laid_none old; few = some }, cause geometry old)
+    (InMagic bytes, record { taken = taken; laid = laid_none old; few = some; told = tt }, cause geometry old)
 
 pub shape_fault : (geometry : Geometry) (old : List Page) (left mid left_now : Option (List ℕ)) (version : Version) (fault : ImageFault) → 0 < geometry.blocks * geometry.pages
     → Consumes left mid (magic version) → ReadsShape geometry version mid left_now (Err fault) → Loads geometry old old left left_now (Err fault)
 shape_fault geometry old left mid left_now version fault some first (bytes, taken, cause) =
-    (InShape version bytes, record { taken = Consumes-trans _ _ _ _ _ first taken; laid = laid_none old; few = some }, cause old)
+    (InShape version bytes, record { taken = Consumes-trans _ _ _ _ _ first taken; laid = laid_none old; few = some; told = tt }, cause old)
 
 pub page_fault : (geometry : Geometry) (old now new : List Page) (left mid left_now : Option (List ℕ)) (version : Version) (n : ℕ) (fault : ImageFault)
     → (to : IsLoadedTo geometry old now left mid version n) → n < geometry.blocks * geometry.pages → LaysPage geometry version old to.pages new mid left_now (Err fault)
     → Loads geometry old new left left_now (Err fault)
 page_fault geometry old now new left mid left_now version n fault to below (bytes, taken, laid, cause) =
-    (InPage version to.pages bytes, record { taken = Consumes-trans _ _ _ _ _ to.taken taken; laid = laid; few = omega (arith, to.count, below) }, cause)
+    (InPage version to.pages bytes, record { taken = Consumes-trans _ _ _ _ _ to.taken taken; laid = laid; few = omega (arith, to.count, below); told = to.told }, cause)
 
 pub all_loaded : (geometry : Geometry) (old new : List Page) (left left_now : Option (List ℕ)) (version : Version) (n : ℕ) (r : Unit {0})
     → IsLoadedTo geometry old new left left_now version n → n ≡ geometry.blocks * geometry.pages → Loads geometry old new left left_now (Ok r)

@@ -44,6 +44,11 @@ abbrev pub pages_to : Place → List Page
 pages_to (InPage version pages bytes) = pages
 pages_to _ = []
 
+-- the version can tell each of them
+abbrev pub AreTold : Place → Type 0
+AreTold (InPage version pages bytes) = All (IsOfVersion version) pages
+AreTold _ = ⊤
+
 -- how many bytes a written page has behind its first one
 abbrev pub page_room : Version → ℕ
 page_room One = 4108
@@ -84,6 +89,7 @@ pub record IsReadTo (geometry : Geometry) (old new : List Page) (left left_now :
   pub taken : Consumes left left_now (bytes_to geometry place)
   pub laid : AreLaid old (pages_to place) new
   pub few : length (pages_to place) < geometry.blocks * geometry.pages
+  pub told : AreTold place
 
 -- the image of these pages was read, and they are laid on the chip
 pub record IsWhole (geometry : Geometry) (old new : List Page) (left left_now : Option (List ℕ)) (version : Version)

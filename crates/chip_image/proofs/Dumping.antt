@@ -7,8 +7,8 @@ use Rattle.flash_pages.specs.Chip.{Page, Erased, page_at}
 use Rattle.flash_pages.specs.declared.chip.Geometry.{Geometry}
 use Rattle.chip_image.specs.Image.{image_of, magic, page_bytes, shape_bytes}
 use Rattle.chip_image.specs.declared.version.Version.TheVariants.{Two}
-use Rattle.chip_image.specs.Transfer.{AppendsFront}
-use Rattle.chip_image.proofs.Bytes.{appends_more, front_after, front_more}
+use Rattle.hpb_outside.specs.Writes.{AppendsFront}
+use Rattle.hpb_outside.proofs.Written.{appends_more, front_after, front_more}
 
 -- the first pages, and what follows them
 next_more : (chip : List Page) (n : ℕ) → n < length chip → take (suc n) chip ≡ take n chip ++ page_at chip n ∷ []

@@ -1,4 +1,3 @@
-pub mod Bytes
 pub mod Dumping
 pub mod Laying
 pub mod Loading

@@ -1,21 +1,9 @@
--- What was written of bytes, and what was taken of a source that lacks some.
-use Rattle.std.specs.Prelude.{◌≡◌, ◌+◌, ◌<◌, ◌≤◌, ℕ, List, ◌++◌, length, MatchResult, Option, Result, Ok, Err}
-use Rattle.std.specs.Io.KnownBytes.{Appends, Consumes, IsAtEnd}
+-- What was taken of a source that lacks some bytes.
+use Rattle.std.specs.Prelude.{◌≡◌, ◌+◌, ◌<◌, ◌≤◌, ℕ, List, length, Option, Result, Ok, Err}
+use Rattle.std.specs.Io.KnownBytes.{Consumes, IsAtEnd}
 use Rattle.hpb_outside.specs.Faults.{Rose}
 use Rattle.chip_image.specs.declared.fault.ImageFault.{ImageFault}
 use Rattle.chip_image.specs.declared.fault.ImageFault.TheVariants.{Cut, ReadFault}
-
--- known bytes grew by a front of these
-pub record AppendsFront (old new : Option (List ℕ)) (bytes : List ℕ) : Type 0 where
-  pub front : List ℕ
-  pub rest : List ℕ
-  pub parts : front ++ rest ≡ bytes
-  pub appended : Appends old new front
-
--- known bytes grew by these, or by a front of them where the call failed
-abbrev pub Writes : {T E : Type 0} → (old new : Option (List ℕ)) → Result T E → List ℕ → Type 0
-Writes old new result bytes =
-    MatchResult result (λ _. Appends old new bytes) (λ _. AppendsFront old new bytes)
 
 -- fewer bytes than so many were taken
 pub record TakesFewer (left left_now : Option (List ℕ)) (most : ℕ) : Type 0 where
@@ -32,5 +20,5 @@ TakesWhole left left_now bytes (Err fault) = ⊥
 
 -- a count of faults is as before, but for this fault, by which it rose
 abbrev pub RoseOnlyAt : {A E : Type 0} (before now : ℕ) → E → Result A E → Type 0
-RoseOnlyAt before now fault result = (result ≡ Err fault → Rose before now × (now ≤ before + 1))
+RoseOnlyAt before now fault result = (result ≡ Err fault → (before ≤ now) × Rose before now × (now ≤ before + 1))
     × ((result ≡ Err fault → ⊥) → now ≡ before)

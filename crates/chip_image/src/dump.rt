@@ -3,14 +3,14 @@ ghost use Rattle.std.specs.Prelude.{◌≡◌, ◌<◌, ◌∷◌, ◌++◌, Err
 ghost use Rattle.flash_pages.specs.Chip.{IsWithinLimits, Written, page_at};
 ghost use Rattle.chip_image.specs.declared.version.Version.TheVariants as version;
 ghost use Rattle.chip_image.specs.Image.{image_of, magic, page_bytes, shape_bytes, spare_bytes};
-ghost use Rattle.chip_image.specs.Transfer.{RoseOnlyAt, Writes};
+ghost use Rattle.hpb_outside.specs.Writes.{Writes};
+ghost use Rattle.chip_image.specs.Transfer.{RoseOnlyAt};
 
 use crate::fault::DumpFault;
-use crate::transfer::write_whole;
 use crate::version::{Version, shape_bytes};
 use byteorder::{BigEndian, ByteOrder};
 use flash_pages::{Flash, Geometry, PageView, Spare};
-use hpb_outside::Sink;
+use hpb_outside::{Sink, write_whole};
 
 /// Writes the image of the chip, in version 2. It takes no memory. After a fault a front of the image was written.
 pub fn dump_image<F: Flash, K: Sink>(flash: &mut F, sink: &mut K) -> Result<(), DumpFault>

@@ -35,8 +35,9 @@ pub fn load_image<S: Source, F: Flash>(source: &mut S, flash: &mut F) -> Result<
     let geometry = flash.geometry();
     let version = read_version(source)?;
     read_shape(source, geometry)?;
+    let mut room = [0; PAGE_ROOM];
     for page in 0..geometry.blocks * geometry.pages {
-        load_page(source, flash, version, page)?;
+        load_page(source, flash, version, page, &mut room)?;
     }
     Ok(())
 }
@@ -71,12 +72,13 @@ fn read_shape<S: Source>(source: &mut S, geometry: Geometry) -> Result<(), Image
     }
 }
 
-/// Reads a page, and programs it where it is written.
+/// Reads a page by the room, and programs it where it is written.
 fn load_page<S: Source, F: Flash>(
     source: &mut S,
     flash: &mut F,
     version: Version,
     page: u32,
+    room: &mut [u8; PAGE_ROOM],
 ) -> Result<(), ImageFault>
     requires page { page < length (F.pages flash.old) }
     ensures lays { (geometry : Geometry) (old pages : List Page) → length pages ≡ page
@@ -90,17 +92,18 @@ fn load_page<S: Source, F: Flash>(
     read_whole(source, &mut kind)?;
     match kind[0] {
         0x00 => Ok(()),
-        0x01 => load_written(source, flash, version, page),
+        0x01 => load_written(source, flash, version, page, room),
         _ => Err(ImageFault::PageKind),
     }
 }
 
-/// Reads the rest of a written page, and programs it.
+/// Reads the rest of a written page into the room, and programs it.
 fn load_written<S: Source, F: Flash>(
     source: &mut S,
     flash: &mut F,
     version: Version,
     page: u32,
+    room: &mut [u8; PAGE_ROOM],
 ) -> Result<(), ImageFault>
     requires page { page < length (F.pages flash.old) }
     ensures lays { PutsPage version page (F.pages flash.old) (F.pages flash.new) (S.left source.old) (S.left source.new)
@@ -109,7 +112,6 @@ fn load_written<S: Source, F: Flash>(
     ensures source_faults { RoseOnlyAt (S.faults source.old) (S.faults source.new) ImageFault.ReadFault result }
     ensures chip_faults { RoseOnlyAt (F.faults flash.old) (F.faults flash.new) ImageFault.ChipFault result }
 {
-    let mut room = [0; PAGE_ROOM];
     let count = version.spare_bytes();
     let bytes = &mut room[..count + BLOCK_BYTES];
     read_whole(source, bytes)?;

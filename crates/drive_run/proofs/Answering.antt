@@ -4,7 +4,8 @@ use Rattle.std.proofs.lemmas.List.{append_assoc, append-nil}
 use Rattle.std.specs.Prelude.{IsErr, slice_range}
 use Rattle.drive_rules.specs.Text.{blocks_text}
 use Rattle.trace_text.specs.Written.{block_line}
-use Rattle.run_output.specs.Writes.{AppendsFront, HasWrittenUpTo, KeepsText}
+use Rattle.hpb_outside.specs.Writes.{AppendsFront, HasWrittenUpTo}
+use Rattle.run_output.specs.Writes.{KeepsText}
 use Rattle.run_output.proofs.Written.{cut_of, gathers_more, whole_of}
 
 -- a text of which all is written but what was gathered is longer by this now

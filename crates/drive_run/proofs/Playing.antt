@@ -7,8 +7,10 @@ use Rattle.drive_rules.specs.Lines.{Drive}
 use Rattle.drive_rules.specs.Said.{Said}
 use Rattle.drive_rules.specs.Text.{said_text}
 use Rattle.hpb_link.specs.State.{LinkState}
-use Rattle.run_output.specs.Writes.{AppendsFront, Grows, HasWrittenUpTo, KeepsText}
-use Rattle.run_output.proofs.Written.{cut_of, gathers_more, nothing_yet, whole_of}
+use Rattle.hpb_outside.specs.Writes.{AppendsFront, HasWrittenUpTo}
+use Rattle.run_output.specs.Writes.{Grows, KeepsText}
+use Rattle.hpb_outside.proofs.Written.{nothing_yet}
+use Rattle.run_output.proofs.Written.{cut_of, gathers_more, whole_of}
 use Rattle.drive_run.specs.Moments.{Adds, Plays, Prints, PrintsFront, Stands}
 
 pub prints_same : (only : Bool) (w : Option (List ℕ)) (g : List ℕ) (said : List Said) → Prints only w w g g said said

@@ -14,7 +14,8 @@ use Rattle.hpb_link.specs.Stands.{AtDrive}
 use Rattle.hpb_link.specs.State.{LinkState, ticket_of}
 use Rattle.trace_text.specs.declared.ending.Ending.TheVariants.{Cut}
 use Rattle.trace_text.specs.Written.{ending_line}
-use Rattle.run_output.specs.Writes.{AppendsFront, HasWrittenUpTo, KeepsText}
+use Rattle.hpb_outside.specs.Writes.{AppendsFront, HasWrittenUpTo}
+use Rattle.run_output.specs.Writes.{KeepsText}
 use Rattle.run_output.proofs.Written.{whole_of}
 use Rattle.drive_run.specs.Moments.{Adds, Cuts, Leads, Prints, cut_text}
 use Rattle.drive_run.specs.Play.{CutReset, Resets}

@@ -22,11 +22,13 @@ use Rattle.hpb_outside.specs.Faults.{HasCause}
 use Rattle.hpb_link.specs.State.{LinkState}
 use Rattle.run_output.specs.Ends.{CountsFault, Finishes, HasMore, LastIs, ReadsAhead, SinkEnds, SourceEnds, StopsWithinLine}
 use Rattle.run_output.specs.Texts.{bad_line_text, counts_text, long_text}
-use Rattle.run_output.specs.Writes.{AppendsFront, HasWrittenUpTo, KeepsText}
+use Rattle.hpb_outside.specs.Writes.{AppendsFront, HasWrittenUpTo}
+use Rattle.run_output.specs.Writes.{KeepsText}
 use Rattle.run_output.specs.declared.status.Status.{Status}
 use Rattle.run_output.specs.declared.status.Status.TheVariants.{Done, BadLine, ReadFault, WriteFault, LongTrace, Usage, Memory, Geometry, ChipFault, BadImage, BadCapture}
 use Rattle.run_output.proofs.Ended.{ends_wordless, last_since, takes_more}
-use Rattle.run_output.proofs.Written.{cut_of, front_longer, front_wordless, gathers_more, nothing_yet, whole_of, wordless}
+use Rattle.hpb_outside.proofs.Written.{nothing_yet}
+use Rattle.run_output.proofs.Written.{cut_of, front_longer, front_wordless, gathers_more, whole_of, wordless}
 use Rattle.drive_run.specs.Moments.{Cuts, Leads, Plays, Prints}
 use Rattle.drive_run.specs.Play.{WantsMemory}
 use Rattle.drive_run.specs.Run.{Drove, DriveEnds, DriveIs, IsBadNext, IsCutNext, IsCutShort, TakesNext}

@@ -21,7 +21,7 @@ use Rattle.hpb_link.specs.State.{LinkState}
 use Rattle.hpb_link.specs.declared.ticket.Ticket.{Ticket}
 use Rattle.trace_text.specs.declared.ending.Ending.TheVariants.{Cut, Range}
 use Rattle.trace_text.specs.Written.{ending_line}
-use Rattle.run_output.specs.Writes.{AppendsFront, HasWrittenUpTo}
+use Rattle.hpb_outside.specs.Writes.{AppendsFront, HasWrittenUpTo}
 
 -- a text of which all is written but what was gathered is longer by this now; or a front of all that was written, where
 -- the call failed

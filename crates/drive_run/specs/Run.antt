@@ -16,7 +16,7 @@ use Rattle.hpb_link.specs.Stands.{AtDrive}
 use Rattle.hpb_link.specs.State.{LinkState}
 use Rattle.run_output.specs.Ends.{CountsFault, HasMore, IsLong, ReadsAhead, StopsWithinLine, TakesLines}
 use Rattle.run_output.specs.Texts.{bad_line_text, counts_text, long_text}
-use Rattle.run_output.specs.Writes.{AppendsFront, HasWrittenUpTo}
+use Rattle.hpb_outside.specs.Writes.{AppendsFront, HasWrittenUpTo}
 use Rattle.run_output.specs.declared.status.Status.{Status}
 use Rattle.run_output.specs.declared.status.Status.TheVariants.{Done, BadLine, ReadFault, WriteFault, LongTrace, Memory}
 use Rattle.drive_run.specs.Moments.{Cuts, Leads, Prints}

@@ -8,7 +8,7 @@ use Rattle.run_output.specs.declared.status.Status.{Status}
 use Rattle.run_output.specs.declared.status.Status.TheVariants.{LongTrace, WriteFault}
 use Rattle.run_output.specs.Ends.{CountsFault, HasMore, IsLong, LastIs, ReadsAhead, SinkEnds, SourceEnds, TakesLines}
 use Rattle.run_output.specs.Texts.{long_text}
-use Rattle.run_output.specs.Writes.{AppendsFront}
+use Rattle.hpb_outside.specs.Writes.{AppendsFront}
 use Rattle.run_output.proofs.Written.{wordless}
 
 -- one more line was taken

@@ -7,7 +7,7 @@ use Rattle.flat_unit.specs.declared.event.Event.{Event}
 use Rattle.flat_unit.specs.History.{History, followed_by}
 use Rattle.flat_unit.specs.Print.{print, line_of}
 use Rattle.flat_unit.proofs.History.{print-followed_by}
-use Rattle.run_output.specs.Writes.{HasWrittenUpTo}
+use Rattle.hpb_outside.specs.Writes.{HasWrittenUpTo}
 use Rattle.run_output.proofs.Written.{gathers_more}
 
 -- the line stands behind the text, whatever follows it

@@ -4,7 +4,7 @@ use Rattle.std.specs.Io.KnownBytes.{Appends, Keeps, prepend_known}
 use Rattle.hpb_outside.specs.Faults.{Rose}
 use Rattle.trace_text.specs.Lines.{IsLine, IsWithinLine, TakesLine, EndsAt, BeginsLong, WhereTold}
 use Rattle.run_output.specs.Texts.{long_text}
-use Rattle.run_output.specs.Writes.{AppendsFront, HasWrittenUpTo}
+use Rattle.hpb_outside.specs.Writes.{AppendsFront, HasWrittenUpTo}
 use Rattle.run_output.specs.declared.turn.Turn.{Turn}
 use Rattle.run_output.specs.declared.turn.Turn.TheVariants.{Unread, Unwritten}
 use Rattle.run_output.specs.declared.status.Status.{Status}

@@ -11,6 +11,6 @@ mod turn;
 
 pub use ends::{end_long, finish, refuse_line};
 pub use gather::{make_room, push_failed, push_moved, push_step, write_before_read};
-pub use output::{LINE_ROOM, OUTPUT_BYTES, Output, write_all};
+pub use output::{LINE_ROOM, OUTPUT_BYTES, Output};
 pub use status::{Outcome, Status};
 pub use turn::Turn;

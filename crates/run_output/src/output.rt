@@ -5,11 +5,11 @@ ghost use Rattle.flat_unit.specs.Print.{line_of};
 ghost use Rattle.trace_text.specs.Written.{block_line, ending_line, upiu_line};
 ghost use Rattle.trace_text.specs.Shown.{shown_line};
 ghost use Rattle.run_output.specs.Texts.{counts_text, shown_text};
-ghost use Rattle.run_output.specs.Writes.{Writes};
+ghost use Rattle.hpb_outside.specs.Writes.{Writes};
 
 use flat_unit::Event;
 use hpb_device::Counts;
-use hpb_outside::{Failed, NoMemory, Sink};
+use hpb_outside::{Failed, NoMemory, Sink, write_whole};
 use std::alloc::Global;
 use std::marker::Model;
 use trace_text::{Ending, put_block, put_counts, put_ending, put_event, put_shown, put_upiu};
@@ -142,23 +142,6 @@ impl Output {
     {
         let len = self.len;
         self.len = 0;
-        write_all(sink, &self.text[..len])
+        write_whole(sink, &self.text[..len])
     }
-}
-
-/// Writes a text, piece by piece.
-pub fn write_all<K: Sink>(sink: &mut K, text: &[u8]) -> Result<(), Failed>
-    ensures writes { Writes (K.written sink.old) (K.written sink.new) result text.now }
-    ensures cause { HasCause (K.faults sink.old) (K.faults sink.new) result }
-{
-    let mut rest = text;
-    while !rest.is_empty() {
-        let count = sink.write(rest)?;
-        if count == 0 {
-            return Err(Failed);
-        }
-        let (_, after) = rest.split_at(count);
-        rest = after;
-    }
-    Ok(())
 }

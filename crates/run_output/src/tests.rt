@@ -3,7 +3,7 @@ use super::*;
 use flash_pages::ChipOp;
 use flat_unit::Event;
 use hpb_device::{Counts, Stepped};
-use hpb_outside::{Failed, MemSink, MemSource};
+use hpb_outside::{Failed, MemSink, MemSource, write_whole};
 use std::alloc::Global;
 use std::test::Fail;
 use trace_text::{Ending, LineReader};
@@ -122,7 +122,7 @@ fn text_is_written_in_time(rt: HostRuntime) -> Result<(), Fail> {
 #[test]
 fn text_that_finds_no_room(rt: HostRuntime) -> Result<(), Fail> {
     let mut sink = MemSink::new(rt.alloc(), 3, Vec::new(rt.alloc()))?;
-    assert_eq!(rt; write_all(&mut sink, b"E usage\n"), Err(Failed));
+    assert_eq!(rt; write_whole(&mut sink, b"E usage\n"), Err(Failed));
     assert_eq!(rt; sink.bytes(), b"E u".as_slice());
     Ok(())
 }

@@ -12,7 +12,7 @@ use Rattle.trace_replay.specs.Run.{TurnAt}
 use Rattle.run_output.specs.declared.turn.Turn.TheVariants.{Served, Unwritten}
 use Rattle.flat_unit.specs.Print.{print}
 use Rattle.replay_standing.specs.Standing.{Standing}
-use Rattle.run_output.specs.Writes.{HasWrittenUpTo}
+use Rattle.hpb_outside.specs.Writes.{HasWrittenUpTo}
 use Rattle.replay_standing.proofs.Standing.{run_standing}
 
 -- a line that was taken and parsed is served or cut

@@ -2,11 +2,11 @@ use Rattle.std.proofs.Common.{◌≡◌, ◌<◌, ◌*◌, ℕ, List, rules, sym
 use Rattle.flash_pages.specs.Chip.{Page, page_at}
 use Rattle.flash_pages.specs.declared.chip.Geometry.{Geometry}
 use Rattle.chip_image.specs.Image.{image_of, magic, page_bytes, shape_bytes}
-use Rattle.chip_image.specs.Transfer.{AppendsFront}
+use Rattle.hpb_outside.specs.Writes.{AppendsFront}
 use Rattle.chip_image.specs.declared.version.Version.TheVariants.{Two}
 use Rattle.std.specs.Prelude.{◌++◌}
 use Rattle.std.specs.Io.KnownBytes.{Appends}
-use Rattle.chip_image.proofs.Bytes.{writes_part}
+use Rattle.hpb_outside.proofs.Written.{writes_part}
 use Rattle.chip_image.proofs.Dumping.{dump_begun, dump_cut, dump_more, dumped, head_cut}
 use Rattle.chip_image.proofs.dump.dump_image.Goals as goal
 

@@ -1,7 +1,7 @@
 use Rattle.std.proofs.Common.{◌∷◌, refl}
 use Rattle.chip_image.specs.Image.{magic, shape_bytes, spare_bytes}
 use Rattle.chip_image.specs.declared.version.Version.TheVariants.{Two}
-use Rattle.chip_image.proofs.Bytes.{writes_after, writes_cut}
+use Rattle.hpb_outside.proofs.Written.{writes_after, writes_cut}
 use Rattle.chip_image.proofs.dump.write_page.Goals as goal
 
 pub returns-in_err-write-clause-writes : goal.returns-in_err-write-clause-writes

@@ -6,10 +6,11 @@ use Rattle.hpb_link.specs.Stands.{AtDrive}
 use Rattle.hpb_link.specs.State.{LinkState}
 use Rattle.replay_standing.specs.Standing.{AreCountsOf}
 use Rattle.run_output.specs.Ends.{CountsFault, SinkEnds, SourceEnds}
-use Rattle.run_output.specs.Writes.{HasWrittenUpTo}
+use Rattle.hpb_outside.specs.Writes.{HasWrittenUpTo}
 use Rattle.run_output.specs.declared.status.Status.TheVariants.{BadLine, Memory}
 use Rattle.run_output.proofs.Ended.{sink_ended, source_ended}
-use Rattle.run_output.proofs.Written.{all_written, keeps_same, up_to_end}
+use Rattle.hpb_outside.proofs.Written.{all_written, up_to_end}
+use Rattle.run_output.proofs.Written.{keeps_same}
 use Rattle.drive_run.proofs.Runs.{drove_begins, drove_few, drove_more, ends_bad, ends_in_source, ends_last, ends_starved, ends_unread, ends_unwritten, ends_whole, sink_whole, source_whole}
 use Rattle.drive_run.proofs.run.drive.Goals as goal
 

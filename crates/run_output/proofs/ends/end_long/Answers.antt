@@ -6,8 +6,9 @@ use Rattle.run_output.specs.Texts.{long_text}
 use Rattle.run_output.specs.declared.status.Status.{Status}
 use Rattle.run_output.specs.declared.status.Status.TheVariants.{Done, LongTrace, WriteFault}
 use Rattle.run_output.proofs.Ended.{ends_wordless, last_long, more_of, sink_ended, source_ended}
-use Rattle.run_output.proofs.Written.{front_wordless, cut_of, whole_of, flushed, gathers_more, nothing_yet, up_to_end}
-use Rattle.run_output.specs.Writes.{HasWrittenUpTo}
+use Rattle.hpb_outside.proofs.Written.{nothing_yet, up_to_end}
+use Rattle.run_output.proofs.Written.{front_wordless, cut_of, whole_of, flushed, gathers_more}
+use Rattle.hpb_outside.specs.Writes.{HasWrittenUpTo}
 use Rattle.run_output.proofs.ends.end_long.Goals as goal
 
 pub returns-then-is_err-clause-ends : goal.returns-then-is_err-clause-ends

@@ -1,10 +1,10 @@
 use Rattle.std.proofs.Common.{◌≡◌, length}
-use Rattle.run_output.specs.Writes.{HasWrittenUpTo}
-use Rattle.run_output.proofs.output.write_all.Given as goal
+use Rattle.hpb_outside.specs.Writes.{HasWrittenUpTo}
+use Rattle.hpb_outside.proofs.whole.write_whole.Given as goal
 
 abbrev pub invariant-loop-rest : goal.invariant-loop-rest
 invariant-loop-rest g l = record {
-  written : HasWrittenUpTo (g.K.Sink.written l.fn.sink) (g.K.Sink.written l.sink) l.text l.rest;
+  written : HasWrittenUpTo (g.K.Sink.written l.fn.sink) (g.K.Sink.written l.sink) l.bytes l.rest;
   none : g.K.Sink.faults l.sink ≡ g.K.Sink.faults l.fn.sink;
 }
 

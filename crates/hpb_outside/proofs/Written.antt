@@ -5,13 +5,7 @@ use Rattle.std.specs.Io.KnownBytes.{Appends, Keeps}
 use Rattle.std.proofs.lemmas.Bool.{false≢true}
 use Rattle.std.proofs.lemmas.Result.{MatchResult-weaker}
 use Rattle.std.specs.Prelude.{IsErr, MatchResult, Result, Ok, Err}
-use Rattle.chip_image.specs.Transfer.{AppendsFront, Writes}
-
--- known bytes have grown by a front of the bytes, and this is the rest of it
-pub record HasWrittenUpTo (old new : Option (List ℕ)) (bytes rest : List ℕ) : Type 0 where
-  pub front : List ℕ
-  pub parts : front ++ rest ≡ bytes
-  pub appended : Appends old new front
+use Rattle.hpb_outside.specs.Writes.{AppendsFront, HasWrittenUpTo, Writes}
 
 pub appends_nothing : (known : Option (List ℕ)) → Appends known known []
 appends_nothing None = tt
@@ -31,6 +25,10 @@ appends_kept (Some x) (Some y) (Some z) xs first same = same ∙ first
 
 pub nothing_yet : (known : Option (List ℕ)) (bytes : List ℕ) → HasWrittenUpTo known known bytes bytes
 nothing_yet known bytes = record { front = []; parts = refl; appended = appends_nothing known }
+
+-- all of the bytes were written
+pub all_written : (a b : Option (List ℕ)) (bytes : List ℕ) → Appends a b bytes → HasWrittenUpTo a b bytes []
+all_written a b bytes all = record { front = bytes; parts = append-nil bytes; appended = all }
 
 pub up_to_more : (a b c : Option (List ℕ)) (bytes rest : List ℕ) (n : ℕ) → HasWrittenUpTo a b bytes rest → Appends b c (take n rest) → HasWrittenUpTo a c bytes (drop n rest)
 up_to_more a b c bytes rest n so_far more = record {

@@ -1,6 +1,6 @@
 use Rattle.std.proofs.Common.{◌<◌, ◌∙◌, arith}
-use Rattle.run_output.proofs.Written.{up_to_more}
-use Rattle.run_output.proofs.output.write_all.Goals as goal
+use Rattle.hpb_outside.proofs.Written.{up_to_more}
+use Rattle.hpb_outside.proofs.whole.write_whole.Goals as goal
 
 pub loop-rest-preserved : goal.loop-rest-preserved
 loop-rest-preserved g c =

@@ -428,7 +428,7 @@ unmoved_lists d n is op e stand =
     lists_now d n d.lists (e ▹ CallFailed op) is.lists (sizes_same d n (serves_same d.store n.store is.same) is.shape) (lists_same d.lists (sizes_of d) e (CallFailed op) refl stand)
 
 -- no list is kept
-same_everywhere : {A : Type 0} (count place : ℕ) (x : A) → slice_index_or (replicate count x) place x ≡ x
+pub same_everywhere : {A : Type 0} (count place : ℕ) (x : A) → slice_index_or (replicate count x) place x ≡ x
 same_everywhere zero place x = refl
 same_everywhere (suc count) zero x = refl
 same_everywhere (suc count) (suc place) x = same_everywhere count place x

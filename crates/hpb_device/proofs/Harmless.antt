@@ -1,5 +1,5 @@
 -- Replies that end no task.
-use Rattle.std.proofs.Common.{◌≡◌, ℕ, ◌^◌, ◌<◌, Bool, true, false, if◌then◌else◌, nat_lt, nat_le, not, ◌&&◌, List, [], ◌∷◌, length, Option, Some, None, Result, Ok, Err, refl, subst, arith}
+use Rattle.std.proofs.Common.{◌≡◌, ℕ, ◌^◌, ◌<◌, Bool, false, nat_lt, nat_le, not, ◌&&◌, List, [], ◌∷◌, length, Option, Some, None, Result, Ok, Err, subst, arith}
 use Rattle.std.specs.List.{list_any}
 use Rattle.hpb_cdb.specs.declared.cdb.Cdb.{Cdb}
 use Rattle.hpb_cdb.specs.declared.fault.CdbFault.{CdbFault}

@@ -1,3 +1,4 @@
+pub mod Begun
 pub mod Chips
 pub mod Commands
 pub mod Collecting

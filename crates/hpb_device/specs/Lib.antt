@@ -1,5 +1,6 @@
 pub mod Accept
 pub mod Advance
+pub mod Begun
 pub mod Calls
 pub mod Counted
 pub mod Counts

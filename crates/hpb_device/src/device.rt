@@ -5,6 +5,8 @@ ghost use Rattle.flash_pages.specs.Chip.{Page};
 ghost use Rattle.flash_pages.specs.Place.{Place};
 ghost use Rattle.flash_pages.specs.Unit.{next_seq};
 ghost use Rattle.collector_laws.specs.Changes.{AreCollected};
+ghost use Rattle.chip_image.specs.Load.{Loads};
+ghost use Rattle.chip_image.specs.Transfer.{RoseOnlyAt};
 ghost use Rattle.flash_store.specs.Store.{IsStanding};
 ghost use Rattle.hpb_sense.specs.Sense.{IsHint};
 ghost use Rattle.region_state.specs.Machine.{start};
@@ -35,11 +37,12 @@ use crate::regions::{new_regions, reset_all, take_moved, take_progress};
 use crate::reply::{Cause, Reply, put_reply, put_told};
 use crate::task::{BURST_BYTES, TASKS, Task};
 use arrayvec::ArrayVec;
+use chip_image::ImageFault;
 use entry_lists::EntryLists;
 use flash_pages::{ChipOp, Flash};
 use flash_store::{Moved, Phase, Store, can_serve};
 use hpb_cdb::Limits;
-use hpb_outside::{Failed, NewFault};
+use hpb_outside::{Failed, NewFault, Source};
 use hpb_sense::Hint;
 use region_state::{Regions, Shape};
 use std::alloc::Global;
@@ -138,6 +141,7 @@ impl<F: Flash> Model for Device<F> {
 
 impl<F: Flash> Device<F> {
     ghost use Rattle.hpb_device.specs.Accept.{TakesPiece};
+    ghost use Rattle.hpb_device.specs.Begun.{Begins, IsBegun};
     ghost use Rattle.hpb_device.specs.Calls.{Collects, GoesOn, LeavesFewer, Receives, Refuses, Scans, Steps, TakesData};
     ghost use Rattle.hpb_device.specs.Calls.{reset_of, uncollected_in};
     ghost use Rattle.hpb_device.specs.Counted.{CountsStand};
@@ -182,6 +186,7 @@ impl<F: Flash> Device<F> {
         ensures fetched { IfOk result (λ device. ListsStand device []) }
         ensures counted { IfOk result (λ device. CountsStand device []) }
         ensures given_back { IfErr result (λ refused. refused.0 ≡ flash) }
+        ensures begins { IfOk result (λ device. Begins device) }
     {
         if !shape.is_within_limits() || !can_serve(flash.geometry(), luns, shape.units) {
             return Err((flash, NewFault::Geometry));
@@ -208,6 +213,23 @@ impl<F: Flash> Device<F> {
         })
     }
 
+    /// Reads an image from the source onto the chip, as `load_image` does. Whatever comes of this, the device is then as
+    /// `new` makes it over the chip that is left. It takes no memory.
+    pub fn load<S: Source>(&mut self, source: &mut S) -> Result<(), ImageFault>
+        requires begins { Begins self.old }
+        ensures loads { Loads self.old.store.geometry self.old.store.pages self.new.store.pages (S.left source.old)
+            (S.left source.new) result }
+        ensures begun { IsBegun self.new }
+        ensures shape { self.new.shape ≡ self.old.shape }
+        ensures luns { self.new.store.luns ≡ self.old.store.luns }
+        ensures units { self.new.store.units ≡ self.old.store.units }
+        ensures geometry { self.new.store.geometry ≡ self.old.store.geometry }
+        ensures source_faults { RoseOnlyAt (S.faults source.old) (S.faults source.new) ImageFault.ReadFault result }
+        ensures chip_faults { RoseOnlyAt self.old.store.faults self.new.store.faults ImageFault.ChipFault result }
+    {
+        self.store.load(source)
+    }
+
     /// Gives the chip back.
     pub fn into_flash(self) -> F
         ensures pages { F.pages result ≡ self.store.pages }
@@ -223,7 +245,8 @@ impl<F: Flash> Device<F> {
         ensures stands { (first : First) (e : History) → DeviceStands self.old first e
             → DeviceStands self.new first (followed_by (e ▹ Host bytes.now) (answer_events result out.new)) }
         ensures foreign { (chip : List Page) (first : First) (e : History) → DeviceStandsForeign self.old chip first e
-            → DeviceStandsForeign self.new chip first (followed_by (e ▹ Host bytes.now) (answer_events result out.new)) }
+            → DeviceStandsForeign self.new chip first
+            (followed_by (e ▹ Host bytes.now) (answer_events result out.new)) }
         ensures answers { (tasks : List Waiting) → KeepsTasks self.old.tasks self.old.held tasks
             → answers_to (sizes_of self.old) true tasks bytes.now ≡ answer_events result out.new }
         ensures receives { Receives self.old self.new bytes.now result out.new }

@@ -1,6 +1,9 @@
 //! The two ends.
 ghost use Rattle.std.specs.Prelude.{◌≡◌, ◌≢◌, ◌≤◌, ◌<◌, ◌+◌, ℕ, IsTrue, IfOk, IfErr, true, [], None, Some, length};
 ghost use Rattle.flat_unit.specs.Replays.{events_of};
+ghost use Rattle.chip_image.specs.Load.{Loads};
+ghost use Rattle.chip_image.specs.Transfer.{RoseOnlyAt};
+ghost use Rattle.hpb_device.specs.Begun.{Begins, IsBegun};
 ghost use Rattle.hpb_device.specs.Left.{steps_left};
 ghost use Rattle.hpb_device.specs.Standing.{group_of, sizes_of};
 ghost use Rattle.hpb_device.specs.State.{DeviceState};
@@ -17,10 +20,12 @@ ghost use Rattle.hpb_link.specs.State.{IsHeard, LinkState};
 ghost use Rattle.hpb_link.specs.Stands.{AtDrive, HasCollected, HasDriven, IsSubmittedAt, said_sent};
 
 use crate::ticket::{Ended, Ticket, take_ticket};
+use chip_image::ImageFault;
 use driver_laws::Request;
 use flash_pages::Flash;
 use hpb_device::{Counts, Device, Stepped};
 use hpb_driver::{Driver, SubmitFault};
+use hpb_outside::Source;
 use std::alloc::{AllocError, Global};
 use std::marker::Model;
 use std::mem;
@@ -105,6 +110,25 @@ impl<F: Flash> Link<F> {
             }),
             Err(error) => Err((device, error)),
         }
+    }
+
+    /// Reads an image from the source onto the chip of the device, which has to be as it was made.
+    pub fn load<S: Source>(&mut self, source: &mut S) -> Result<(), ImageFault>
+        requires begins { Begins self.old.device }
+        ensures loads { Loads self.old.device.store.geometry self.old.device.store.pages self.new.device.store.pages
+            (S.left source.old) (S.left source.new) result }
+        ensures begun { IsBegun self.new.device }
+        ensures sizes { sizes_of self.new.device ≡ sizes_of self.old.device }
+        ensures shape { self.new.device.shape ≡ self.old.device.shape }
+        ensures luns { self.new.device.store.luns ≡ self.old.device.store.luns }
+        ensures units { self.new.device.store.units ≡ self.old.device.store.units }
+        ensures geometry { self.new.device.store.geometry ≡ self.old.device.store.geometry }
+        ensures others { self.new ≡ record self.old { device = self.new.device } }
+        ensures source_faults { RoseOnlyAt (S.faults source.old) (S.faults source.new) ImageFault.ReadFault result }
+        ensures chip_faults { RoseOnlyAt self.old.device.store.faults self.new.device.store.faults
+            ImageFault.ChipFault result }
+    {
+        self.device.load(source)
     }
 
     /// Asks the driver for the UPIU that it sends next, and hands it to the device. It answers whether there was one,

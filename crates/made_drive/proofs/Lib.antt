@@ -1,0 +1,5 @@
+pub mod Lines
+pub mod Scans
+pub mod WithinLines
+pub mod Tallies
+pub mod Sayings

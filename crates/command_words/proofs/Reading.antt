@@ -1,17 +1,17 @@
 -- The commands as `clap` has them.
-use Rattle.std.proofs.Common.{◌≡◌, ◌≢◌, inl, inr, Bool, true, false, refl, sym, subst, ◌∙◌, ap, List, [], Result, Ok, Err}
-use Rattle.std.specs.Prelude.{◌&&◌, IfOk, codes}
-use Rattle.std.proofs.lemmas.Bool.{false≢true}
-use Rattle.clap.specs.Faults.{fault_of, is_simple_and_free}
+use Rattle.std.proofs.Common.{◌≡◌, inl, inr, Bool, true, false, refl, sym, subst, ◌∙◌, ap, ℕ, List, Option, Result}
+use Rattle.std.specs.Prelude.{◌&&◌, IfOk, codes, unwrap_or}
+use Rattle.clap.specs.Faults.{is_simple_and_free}
 use Rattle.clap.specs.Simple.{App, matches_of}
 use Rattle.clap.specs.Walk.{Row, Text}
-use Rattle.command_words.specs.Words.{IsFirst, IsRead, drive_app, replay_app, rows_in, show_app}
+use Rattle.command_words.specs.Words.{IsFirst, IsRead, RunsDevice, drive_app, gen_app, replay_app, rows_in, show_app, snap_app}
+use Rattle.command_words.specs.Words.{has_image, is_plain, named_chip, named_seed, named_unit, only_answers}
 use Rattle.command_words.specs.declared.words.WordsFault.{WordsFault}
-use Rattle.command_words.specs.Words.{RunsDevice, chip_set, has_flag, is_plain, named_chip, named_unit, only_answers, unit_set}
 use Rattle.command_words.specs.Options.{IsCommand, IsGiven, chip_given, cut_shape, unit_given}
-use Rattle.command_words.specs.declared.words.Command.TheVariants.{Replay, Drive}
+use Rattle.command_words.specs.declared.words.Command.TheVariants.{Replay, Snap, Drive, Gen}
 use Rattle.command_words.specs.declared.words.Driven.{Driven}
-use Rattle.command_words.specs.declared.words.Named.{Named}
+use Rattle.command_words.specs.declared.words.Generated.{Generated}
+use Rattle.command_words.specs.declared.words.Replayed.{Replayed}
 use Rattle.std.proofs.lemmas.Result.{IfOk-weaker}
 use Rattle.command_words.specs.declared.words.Given.{Given}
 
@@ -20,9 +20,17 @@ pub replay_is_simple : is_simple_and_free replay_app ≡ true
 unfolding replay_app
 replay_is_simple = refl
 
+pub snap_is_simple : is_simple_and_free snap_app ≡ true
+unfolding snap_app
+snap_is_simple = refl
+
 pub drive_is_simple : is_simple_and_free drive_app ≡ true
 unfolding drive_app
 drive_is_simple = refl
+
+pub gen_is_simple : is_simple_and_free gen_app ≡ true
+unfolding gen_app
+gen_is_simple = refl
 
 pub show_is_simple : is_simple_and_free show_app ≡ true
 unfolding show_app
@@ -46,52 +54,119 @@ pub rows_of_replay : (words : List Text) → IsFirst (codes "replay") words → 
 unfolding rows_in
 rows_of_replay words is = rw is refl
 
+pub rows_of_snap : (words : List Text) → IsFirst (codes "snap") words → rows_in words ≡ matches_of snap_app words
+unfolding rows_in
+rows_of_snap words is = rw is refl
+
 pub rows_of_drive : (words : List Text) → IsFirst (codes "drive") words → rows_in words ≡ matches_of drive_app words
 unfolding rows_in
 rows_of_drive words is = rw is refl
 
--- what the words of `replay` name
-pub replay_named : (words : List Text) (given : Given) (named : Named) → IsFirst (codes "replay") words
-    → IsRead replay_app words × IsGiven (matches_of replay_app words) given
-    → named ≡ record { chip = chip_given given; unit = cut_shape (unit_given given) } → IsCommand words (Replay named)
-unfolding named_chip named_unit
-replay_named words given named first read is =
-    let rows = sym (rows_of_replay words first) in (
-      (first, read.0),
-      ap (λ (n : Named). n.chip) is ∙ read.1.chip ∙ ap chip_set rows,
-      ap (λ (n : Named). n.unit) is ∙ ap cut_shape (read.1.unit ∙ ap unit_set rows),
-    )
+pub rows_of_gen : (words : List Text) → IsFirst (codes "gen") words → rows_in words ≡ matches_of gen_app words
+unfolding rows_in
+rows_of_gen words is = rw is refl
+
+given_rows : (app : App) (words : List Text) (given : Given) → rows_in words ≡ matches_of app words
+    → IsGiven (matches_of app words) given → IsGiven (rows_in words) given
+given_rows app words given rows = subst (λ (rows : List Row). IsGiven rows given) (sym rows)
+
+-- what the words of `replay` and `snap` name
+abbrev pub replayed_of : Given → Replayed
+replayed_of given = record {
+  named = record { chip = chip_given given; unit = cut_shape (unit_given given) };
+  image = given.image;
+}
+
+names_replayed : (words : List Text) (given : Given) (replayed : Replayed) → IsGiven (rows_in words) given
+    → replayed ≡ replayed_of given
+    → (replayed.named.chip ≡ named_chip words) × (replayed.named.unit ≡ cut_shape (named_unit words))
+    × (replayed.image ≡ has_image words)
+unfolding named_chip named_unit has_image
+names_replayed words given replayed read is = (
+  ap (λ (r : Replayed). r.named.chip) is ∙ read.chip,
+  ap (λ (r : Replayed). r.named.unit) is ∙ ap cut_shape read.unit,
+  ap (λ (r : Replayed). r.image) is ∙ read.image,
+)
+
+pub replay_named : (words : List Text) (given : Given) (replayed : Replayed) → IsFirst (codes "replay") words
+    → IsRead replay_app words × IsGiven (matches_of replay_app words) given → replayed ≡ replayed_of given
+    → IsCommand words (Replay replayed)
+replay_named words given replayed first read is =
+    let rows = given_rows replay_app words given (rows_of_replay words first) read.1 in
+    let (chip, unit, image) = names_replayed words given replayed rows is in ((first, read.0), chip, unit, image)
+
+pub snap_named : (words : List Text) (given : Given) (replayed : Replayed) → IsFirst (codes "snap") words
+    → IsRead snap_app words × IsGiven (matches_of snap_app words) given → replayed ≡ replayed_of given
+    → IsCommand words (Snap replayed)
+snap_named words given replayed first read is =
+    let rows = given_rows snap_app words given (rows_of_snap words first) read.1 in
+    let (chip, unit, image) = names_replayed words given replayed rows is in ((first, read.0), chip, unit, image)
 
 -- and those of `drive`
 pub drive_named : (words : List Text) (given : Given) (driven : Driven) → IsFirst (codes "drive") words
     → IsRead drive_app words × IsGiven (matches_of drive_app words) given
     → driven ≡ record {
       named = record { chip = chip_given given; unit = cut_shape (unit_given given) };
+      image = given.image;
       plain = given.plain;
       answers = given.answers;
     } → IsCommand words (Drive driven)
-unfolding named_chip named_unit is_plain only_answers
+unfolding named_chip named_unit has_image is_plain only_answers
 drive_named words given driven first read is =
-    let rows = sym (rows_of_drive words first) in (
+    let rows = given_rows drive_app words given (rows_of_drive words first) read.1 in (
       (first, read.0),
-      ap (λ (d : Driven). d.named.chip) is ∙ read.1.chip ∙ ap chip_set rows,
-      ap (λ (d : Driven). d.named.unit) is ∙ ap cut_shape (read.1.unit ∙ ap unit_set rows),
-      ap (λ (d : Driven). d.plain) is ∙ read.1.plain ∙ ap (λ (r : List Row). has_flag r (codes "plain")) rows,
-      ap (λ (d : Driven). d.answers) is ∙ read.1.answers ∙ ap (λ (r : List Row). has_flag r (codes "answers")) rows,
+      ap (λ (d : Driven). d.named.chip) is ∙ rows.chip,
+      ap (λ (d : Driven). d.named.unit) is ∙ ap cut_shape rows.unit,
+      ap (λ (d : Driven). d.plain) is ∙ rows.plain,
+      ap (λ (d : Driven). d.answers) is ∙ rows.answers,
+      ap (λ (d : Driven). d.image) is ∙ rows.image,
+    )
+
+-- and those of `gen`
+pub gen_named : (words : List Text) (given : Given) (generated : Generated) → IsFirst (codes "gen") words
+    → IsRead gen_app words × IsGiven (matches_of gen_app words) given
+    → generated ≡ record {
+      named = record { chip = chip_given given; unit = cut_shape (unit_given given) };
+      seed = unwrap_or given.seed 0;
+      plain = given.plain;
+    } → IsCommand words (Gen generated)
+unfolding named_chip named_unit named_seed is_plain
+gen_named words given generated first read is =
+    let rows = given_rows gen_app words given (rows_of_gen words first) read.1 in (
+      (first, read.0),
+      ap (λ (d : Generated). d.named.chip) is ∙ rows.chip,
+      ap (λ (d : Generated). d.named.unit) is ∙ ap cut_shape rows.unit,
+      ap (λ (d : Generated). d.seed) is ∙ ap (λ (n : Option ℕ). unwrap_or n 0) rows.seed,
+      ap (λ (d : Generated). d.plain) is ∙ rows.plain,
     )
 
 -- words that are read run a device
+runs : (app : App) (words : List Text) (r : Result Given WordsFault) → rows_in words ≡ matches_of app words
+    → (IsRead app words → RunsDevice words)
+    → IfOk r (λ (given : Given). IsRead app words × IsGiven (matches_of app words) given)
+    → IfOk r (λ (given : Given). RunsDevice words × IsGiven (rows_in words) given)
+runs app words r rows device = IfOk-weaker r _ _
+    (λ given read. (device read.0, given_rows app words given rows read.1))
+
 pub replay_runs : (words : List Text) (r : Result Given WordsFault) → IsFirst (codes "replay") words
     → IfOk r (λ (given : Given). IsRead replay_app words × IsGiven (matches_of replay_app words) given)
     → IfOk r (λ (given : Given). RunsDevice words × IsGiven (rows_in words) given)
-replay_runs words r first = IfOk-weaker r _ _
-    (λ given read. (inl (first, read.0), subst (λ (rows : List Row). IsGiven rows given) (sym (rows_of_replay words first)) read.1))
+replay_runs words r first = runs replay_app words r (rows_of_replay words first) (λ read. inl (first, read))
+
+pub snap_runs : (words : List Text) (r : Result Given WordsFault) → IsFirst (codes "snap") words
+    → IfOk r (λ (given : Given). IsRead snap_app words × IsGiven (matches_of snap_app words) given)
+    → IfOk r (λ (given : Given). RunsDevice words × IsGiven (rows_in words) given)
+snap_runs words r first = runs snap_app words r (rows_of_snap words first) (λ read. inr (inl (first, read)))
 
 pub drive_runs : (words : List Text) (r : Result Given WordsFault) → IsFirst (codes "drive") words
     → IfOk r (λ (given : Given). IsRead drive_app words × IsGiven (matches_of drive_app words) given)
     → IfOk r (λ (given : Given). RunsDevice words × IsGiven (rows_in words) given)
-drive_runs words r first = IfOk-weaker r _ _
-    (λ given read. (inr (first, read.0), subst (λ (rows : List Row). IsGiven rows given) (sym (rows_of_drive words first)) read.1))
+drive_runs words r first = runs drive_app words r (rows_of_drive words first) (λ read. inr (inr (inl (first, read))))
+
+pub gen_runs : (words : List Text) (r : Result Given WordsFault) → IsFirst (codes "gen") words
+    → IfOk r (λ (given : Given). IsRead gen_app words × IsGiven (matches_of gen_app words) given)
+    → IfOk r (λ (given : Given). RunsDevice words × IsGiven (rows_in words) given)
+gen_runs words r first = runs gen_app words r (rows_of_gen words first) (λ read. inr (inr (inr (first, read))))
 
 -- what is given is what the words name
 pub chip_named : (words : List Text) (r : Result Given WordsFault)

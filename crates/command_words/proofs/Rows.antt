@@ -3,7 +3,7 @@ use Rattle.std.proofs.Common.{◌≡◌, ℕ, false, true, List, [], ◌∷◌, 
 use Rattle.region_state.specs.declared.shape.Mode.TheVariants as decides
 use Rattle.clap.specs.Faults.{fault_of}
 use Rattle.clap.proofs.OnLiterals.{clap_on_literals}
-use Rattle.command_words.specs.Words.{drive_app, is_plain, named_chip, named_unit, only_answers, replay_app, rows_in, show_app}
+use Rattle.command_words.specs.Words.{drive_app, gen_app, has_image, is_plain, named_chip, named_seed, named_unit, only_answers, replay_app, rows_in, show_app, snap_app}
 
 not_empty : {A : Type 0} {x : A} {xs : List A} → x ∷ xs ≡ [] → ⊥
 not_empty is = cc
@@ -61,3 +61,38 @@ plain_drive = codes "drive" ∷ codes "--plain" ∷ codes "--blocks" ∷ codes "
 pub drive-plain : (named_chip plain_drive ≡ record { blocks = 8; pages = 64 }) × (is_plain plain_drive ≡ true) × (only_answers plain_drive ≡ false)
 unfolding named_chip is_plain only_answers rows_in drive_app clap_on_literals
 drive-plain = (refl, refl, refl)
+
+-- replay --image, and replay
+pub taken-image : fault_of replay_app (codes "replay" ∷ codes "--image" ∷ []) ≡ []
+unfolding replay_app clap_on_literals
+taken-image = refl
+
+pub replay-image : (has_image (codes "replay" ∷ codes "--image" ∷ []) ≡ true) × (has_image (codes "replay" ∷ []) ≡ false)
+unfolding has_image rows_in replay_app clap_on_literals
+replay-image = (refl, refl)
+
+-- snap --pages 4 --image
+abbrev small_snap : List (List ℕ)
+small_snap = codes "snap" ∷ codes "--pages" ∷ codes "4" ∷ codes "--image" ∷ []
+
+pub snap-small : (named_chip small_snap ≡ record { blocks = 64; pages = 4 }) × (has_image small_snap ≡ true)
+unfolding named_chip has_image rows_in snap_app clap_on_literals
+snap-small = (refl, refl)
+
+-- show --image
+pub image-not_shown : fault_of show_app (codes "show" ∷ codes "--image" ∷ []) ≡ [] → ⊥
+unfolding show_app clap_on_literals
+image-not_shown is = not_empty is
+
+-- gen --seed 7, and gen
+pub taken-gen : fault_of gen_app (codes "gen" ∷ codes "--seed" ∷ codes "7" ∷ []) ≡ []
+unfolding gen_app clap_on_literals
+taken-gen = refl
+
+pub gen-seed : named_seed (codes "gen" ∷ codes "--seed" ∷ codes "7" ∷ []) ≡ 7
+unfolding named_seed rows_in gen_app clap_on_literals
+gen-seed = refl
+
+pub without_seed-not_taken : fault_of gen_app (codes "gen" ∷ []) ≡ [] → ⊥
+unfolding gen_app clap_on_literals
+without_seed-not_taken is = not_empty is

@@ -20,6 +20,10 @@ use Rattle.region_state.specs.declared.shape.Shape.{Shape}
 abbrev pub option_rule : Text → Rule
 option_rule name = record (new_rule name) { long = Some name; action = Some Set; value_names = 1 }
 
+-- an option that has to be there
+abbrev pub required_rule : Text → Rule
+required_rule name = record (option_rule name) { required = true }
+
 abbrev pub flag_rule : Text → Rule
 flag_rule name = record (new_rule name) { long = Some name; action = Some SetTrue }
 
@@ -36,13 +40,20 @@ number_options =
 abbrev pub with_shape : App → App
 with_shape app = with_rule (fold with_rule app (map option_rule number_options)) (option_rule (codes "mode"))
 
--- the three commands
+-- the five commands
 unfoldable pub replay_app : App
-replay_app = with_shape (bare_app (codes "replay"))
+replay_app = with_rule (with_shape (bare_app (codes "replay"))) (flag_rule (codes "image"))
+
+unfoldable pub snap_app : App
+snap_app = with_rule (with_shape (bare_app (codes "snap"))) (flag_rule (codes "image"))
 
 unfoldable pub drive_app : App
-drive_app = with_rule (with_rule (with_shape (bare_app (codes "drive"))) (flag_rule (codes "plain")))
-    (flag_rule (codes "answers"))
+drive_app = fold with_rule (with_shape (bare_app (codes "drive")))
+    (map flag_rule (codes "image" ∷ codes "plain" ∷ codes "answers" ∷ []))
+
+unfoldable pub gen_app : App
+gen_app = with_rule (with_rule (with_shape (bare_app (codes "gen"))) (required_rule (codes "seed")))
+    (flag_rule (codes "plain"))
 
 unfoldable pub show_app : App
 show_app = bare_app (codes "show")
@@ -62,7 +73,8 @@ HasNumber rows option = IfSome (first_of option rows) (λ value. IsTrue (is_numb
 -- where the mode is set, it is `device` or `host`
 abbrev pub HasMode : List Row → Type 0
 HasMode rows =
-    IfSome (first_of (codes "mode") rows) (λ value. IsTrue (bytes_eq value (codes "device") || bytes_eq value (codes "host")))
+    IfSome (first_of (codes "mode") rows)
+    (λ value. IsTrue (bytes_eq value (codes "device") || bytes_eq value (codes "host")))
 
 -- each value is of the form that its option wants
 pub record HasValues (rows : List Row) : Type 0 where
@@ -72,6 +84,7 @@ pub record HasValues (rows : List Row) : Type 0 where
   pub region : HasNumber rows (codes "region")
   pub sub : HasNumber rows (codes "sub")
   pub held : HasNumber rows (codes "held")
+  pub seed : HasNumber rows (codes "seed")
   pub mode : HasMode rows
 
 -- `clap` takes the words, and each value is of its form
@@ -83,15 +96,21 @@ pub record IsRead (app : App) (words : List Text) : Type 0 where
 abbrev pub IsReplay : List Text → Type 0
 IsReplay words = IsFirst (codes "replay") words × IsRead replay_app words
 
+abbrev pub IsSnap : List Text → Type 0
+IsSnap words = IsFirst (codes "snap") words × IsRead snap_app words
+
 abbrev pub IsDrive : List Text → Type 0
 IsDrive words = IsFirst (codes "drive") words × IsRead drive_app words
+
+abbrev pub IsGen : List Text → Type 0
+IsGen words = IsFirst (codes "gen") words × IsRead gen_app words
 
 abbrev pub IsShow : List Text → Type 0
 IsShow words = IsFirst (codes "show") words × (fault_of show_app words ≡ [])
 
 -- the words are of a command that runs a device
 abbrev pub RunsDevice : List Text → Type 0
-RunsDevice words = IsReplay words ⊎ IsDrive words
+RunsDevice words = IsReplay words ⊎ (IsSnap words ⊎ (IsDrive words ⊎ IsGen words))
 
 -- the number and the mode that are set
 abbrev pub number_set : List Row → Text → Option ℕ
@@ -124,13 +143,15 @@ unit_set rows = record {
 abbrev pub has_flag : List Row → Text → Bool
 has_flag rows name = option_map_or (λ (value : Text). bytes_eq value (codes "true")) (first_of name rows) false
 
--- the first word is `drive`
-abbrev pub is_drive : List Text → Bool
-is_drive words = option_map_or (λ (word : Text). bytes_eq word (codes "drive")) (slice_get words 0) false
+-- this is the first word
+abbrev pub begins_with : Text → List Text → Bool
+begins_with name words = option_map_or (λ (word : Text). bytes_eq word name) (slice_get words 0) false
 
--- what the words set, as words of `drive` or of `replay`
+-- what the words set, as words of `drive`, of `snap`, of `gen` or of `replay`
 unfoldable pub rows_in : List Text → List Row
-rows_in words = if is_drive words then matches_of drive_app words else matches_of replay_app words
+rows_in words = if begins_with (codes "drive") words then matches_of drive_app words
+    else (if begins_with (codes "snap") words then matches_of snap_app words
+    else (if begins_with (codes "gen") words then matches_of gen_app words else matches_of replay_app words))
 
 -- what the words name
 unfoldable pub named_chip : List Text → Geometry
@@ -139,9 +160,16 @@ named_chip words = chip_set (rows_in words)
 unfoldable pub named_unit : List Text → Shape
 named_unit words = unit_set (rows_in words)
 
--- `--plain` and `--answers` are among the words
+-- `--image`, `--plain` and `--answers` are among the words
+unfoldable pub has_image : List Text → Bool
+has_image words = has_flag (rows_in words) (codes "image")
+
 unfoldable pub is_plain : List Text → Bool
 is_plain words = has_flag (rows_in words) (codes "plain")
 
 unfoldable pub only_answers : List Text → Bool
 only_answers words = has_flag (rows_in words) (codes "answers")
+
+-- the seed
+unfoldable pub named_seed : List Text → ℕ
+named_seed words = unwrap_or (number_set (rows_in words) (codes "seed")) 0

@@ -1,7 +1,8 @@
 //! The commands as `clap` has them declared: what it reads of the words, and how it shows their use.
 ghost use Rattle.std.specs.Prelude.{◌≡◌, IfOk, codes, false, true};
 ghost use Rattle.clap.specs.Words.{app_of, is_simple_and_free, rule_of};
-ghost use Rattle.command_words.specs.Words.{bare_app, drive_app, flag_rule, option_rule, replay_app, show_app, with_shape};
+ghost use Rattle.command_words.specs.Words.{bare_app, drive_app, flag_rule, gen_app, option_rule, replay_app};
+ghost use Rattle.command_words.specs.Words.{required_rule, show_app, snap_app, with_shape};
 
 use clap::{Arg, ArgAction, Command};
 use std::alloc::{AllocError, Global};
@@ -18,6 +19,14 @@ fn option<'a>(alloc: Global, name: &'a str, value: &'a str, help: &'a str) -> Ar
         .action(ArgAction::Set)
 }
 
+/// An option that has to be there.
+fn required<'a>(alloc: Global, name: &'a str, value: &'a str, help: &'a str) -> Arg<'a>
+    ensures rule { rule_of result ≡ required_rule name.now }
+    ensures local { result.global ≡ false }
+{
+    option(alloc, name, value, help).required(true)
+}
+
 /// A flag, which has no value.
 fn flag<'a>(alloc: Global, name: &'a str, help: &'a str) -> Arg<'a>
     ensures rule { rule_of result ≡ flag_rule name.now }
@@ -27,6 +36,18 @@ fn flag<'a>(alloc: Global, name: &'a str, help: &'a str) -> Arg<'a>
         .long(name)
         .help(help)
         .action(ArgAction::SetTrue)
+}
+
+/// The flag of a command that may begin with an image.
+fn image_flag<'a>(alloc: Global) -> Arg<'a>
+    ensures rule { rule_of result ≡ flag_rule (codes "image") }
+    ensures local { result.global ≡ false }
+{
+    flag(
+        alloc,
+        "image",
+        "the source begins with an image of the chip, which is loaded first",
+    )
 }
 
 /// A command without an option.
@@ -100,7 +121,22 @@ pub fn replay_command<'a>(alloc: Global) -> Result<Command<'a>, AllocError>
         "ufshpb replay [OPTIONS]",
         "Replays a trace from standard input, and prints the transcript",
     );
-    with_shape(alloc, replay)
+    with_shape(alloc, replay)?.arg(image_flag(alloc))
+}
+
+/// The command `snap`.
+#[tactic(auto, unfolding(crate::specs::Words::snap_app))]
+pub fn snap_command<'a>(alloc: Global) -> Result<Command<'a>, AllocError>
+    ensures app { IfOk result (λ command. app_of command ≡ snap_app) }
+    ensures simple { IfOk result (λ command. is_simple_and_free (app_of command) ≡ true) }
+{
+    let snap = bare(
+        alloc,
+        "snap",
+        "ufshpb snap [OPTIONS]",
+        "Replays a trace from standard input, prints the transcript, and then writes the image of the chip",
+    );
+    with_shape(alloc, snap)?.arg(image_flag(alloc))
 }
 
 /// The command `drive`.
@@ -116,6 +152,7 @@ pub fn drive_command<'a>(alloc: Global) -> Result<Command<'a>, AllocError>
         "Drives a device by the requests from standard input, and prints the transcript and each answer",
     );
     with_shape(alloc, drive)?
+        .arg(image_flag(alloc))?
         .arg(flag(
             alloc,
             "plain",
@@ -125,6 +162,32 @@ pub fn drive_command<'a>(alloc: Global) -> Result<Command<'a>, AllocError>
             alloc,
             "answers",
             "prints the ends of the requests and the counts alone",
+        ))
+}
+
+/// The command `gen`.
+#[tactic(auto, unfolding(crate::specs::Words::gen_app))]
+pub fn gen_command<'a>(alloc: Global) -> Result<Command<'a>, AllocError>
+    ensures app { IfOk result (λ command. app_of command ≡ gen_app) }
+    ensures simple { IfOk result (λ command. is_simple_and_free (app_of command) ≡ true) }
+{
+    let generated = bare(
+        alloc,
+        "gen",
+        "ufshpb gen [OPTIONS] --seed <N>",
+        "Makes a drive of 2000 lines from a seed, runs it, and prints how it went",
+    );
+    with_shape(alloc, generated)?
+        .arg(required(
+            alloc,
+            "seed",
+            "N",
+            "what the lines are drawn from, 0 to 999999999",
+        ))?
+        .arg(flag(
+            alloc,
+            "plain",
+            "drives without a cache of the map: each read goes out without an entry",
         ))
 }
 
@@ -147,7 +210,11 @@ pub fn usage(alloc: Global) -> Result<String, AllocError> {
     let mut text = String::new(alloc);
     text.push_str(replay_command(alloc)?.render_help()?.as_str())?;
     text.push('\n')?;
+    text.push_str(snap_command(alloc)?.render_help()?.as_str())?;
+    text.push('\n')?;
     text.push_str(drive_command(alloc)?.render_help()?.as_str())?;
+    text.push('\n')?;
+    text.push_str(gen_command(alloc)?.render_help()?.as_str())?;
     text.push('\n')?;
     text.push_str(show_command(alloc).render_help()?.as_str())?;
     Ok(text)

@@ -10,4 +10,4 @@ mod words;
 
 pub use commands::usage;
 pub use limits::{GeometryFault, Limit, NamedNumbers, each_refusal_is_told, geometry_fault};
-pub use words::{Command, Driven, Named, WordsFault, chip_of, command_of};
+pub use words::{Command, Driven, Generated, Named, Replayed, WordsFault, chip_of, command_of};

@@ -49,7 +49,7 @@ fn small(units: u32, region_exp: u8, sub_exp: u8, held: u8, mode: Mode) -> Named
 }
 
 /// Words that aren't in form.
-const OTHERS: [&str; 51] = [
+const OTHERS: [&str; 60] = [
     // No word, no command, and `show` with more words.
     "",
     "Replay",
@@ -108,6 +108,15 @@ const OTHERS: [&str; 51] = [
     "show --plain",
     "drives",
     "drive ",
+    "replay --image --image",
+    "snap --image=1",
+    "snap --plain",
+    "show --image",
+    "gen",
+    "gen --plain",
+    "gen --seed",
+    "gen --seed seven",
+    "gen --seed 7 --image",
 ];
 
 #[test]
@@ -161,7 +170,10 @@ fn words_of_a_replay_name_a_device(rt: HostRuntime) -> Result<(), Fail> {
         let words = words_of(rt.alloc(), text)?;
         assert_eq!(rt;
             command_of(rt.alloc(), &words),
-            Ok(Command::Replay(named)),
+            Ok(Command::Replay(Replayed {
+                named,
+                image: false
+            })),
             "{text}"
         );
     }
@@ -195,12 +207,71 @@ fn words_of_a_drive_name_flags_too(rt: HostRuntime) -> Result<(), Fail> {
         let words = words_of(rt.alloc(), text)?;
         let driven = Driven {
             named,
+            image: false,
             plain,
             answers,
         };
         assert_eq!(rt;
             command_of(rt.alloc(), &words),
             Ok(Command::Drive(driven)),
+            "{text}"
+        );
+    }
+    Ok(())
+}
+
+#[test]
+fn an_image_may_come_first(rt: HostRuntime) -> Result<(), Fail> {
+    let named = named(8, 4, 20);
+    let with_image = Replayed { named, image: true };
+    let without = Replayed {
+        named,
+        image: false,
+    };
+    let driven = Driven {
+        named,
+        image: true,
+        plain: false,
+        answers: true,
+    };
+    for (text, command) in [
+        (
+            "replay --image --blocks 8 --pages 4",
+            Command::Replay(with_image),
+        ),
+        (
+            "snap --blocks 8 --pages 4 --image",
+            Command::Snap(with_image),
+        ),
+        ("snap --blocks=8 --pages=4 --", Command::Snap(without)),
+        (
+            "drive --answers --blocks 8 --image --pages 4",
+            Command::Drive(driven),
+        ),
+    ] {
+        let words = words_of(rt.alloc(), text)?;
+        assert_eq!(rt; command_of(rt.alloc(), &words), Ok(command), "{text}");
+    }
+    Ok(())
+}
+
+#[test]
+fn a_drive_is_made_from_a_seed(rt: HostRuntime) -> Result<(), Fail> {
+    for (text, named, seed, plain) in [
+        ("gen --seed 7", named(64, 64, 3904), 7, false),
+        ("gen --plain --seed=0", named(64, 64, 3904), 0, true),
+        (
+            "gen --blocks 8 --seed 999999999 --pages 4",
+            named(8, 4, 20),
+            999_999_999,
+            false,
+        ),
+    ] {
+        let words = words_of(rt.alloc(), text)?;
+        let generated = Generated { named, seed, plain };
+        assert_eq!(rt;
+            command_of(rt.alloc(), &words),
+            Ok(Command::Gen(generated)),
             "{text}"
         );
     }
@@ -227,10 +298,13 @@ fn use_is_shown_with_each_option(rt: HostRuntime) -> Result<(), Fail> {
     let text = usage(rt.alloc())?;
     for part in [
         "Usage: ufshpb replay [OPTIONS]",
+        "Usage: ufshpb snap [OPTIONS]",
         "Usage: ufshpb drive [OPTIONS]",
+        "Usage: ufshpb gen [OPTIONS] --seed <N>",
         "Usage: ufshpb show",
         "--blocks <N>",
         "--mode <MODE>",
+        "--image",
         "--answers",
     ] {
         assert!(rt; text.as_str().contains(part), "{part}");
@@ -245,6 +319,7 @@ fn words_name_a_chip(rt: HostRuntime) -> Result<(), Fail> {
         ("replay --blocks 8", 8, 64),
         ("replay --pages 256 --blocks 4", 4, 256),
         ("replay --units 0", 64, 64),
+        ("snap --image --blocks 8", 8, 64),
         ("drive", 64, 64),
         ("drive --plain --blocks 8", 8, 64),
         // Outside the limits, and not in form.
@@ -313,6 +388,11 @@ fn limits_that_are_not_kept_are_told(rt: HostRuntime) -> Result<(), Fail> {
             "drive --plain --held 33",
             Limit::Held,
             "--held 33: a number from 1 to 32",
+        ),
+        (
+            "snap --image --pages 257",
+            Limit::Pages,
+            "--pages 257: a number from 2 to 256",
         ),
         // Limits that are kept, that another one stands before, and words that aren't in form.
         ("replay", Limit::Units, ""),

@@ -1,6 +1,6 @@
 //! The words, and what they name.
 ghost use Rattle.std.specs.Prelude.{◌≡◌, ◌≢◌, ◌-◌, ◌*◌, IfErr, IfOk, [], codes, map, min, option_map, slice_get};
-ghost use Rattle.std.specs.Prelude.{string_bytes, true, List, ℕ};
+ghost use Rattle.std.specs.Prelude.{string_bytes, true, List, ℕ, unwrap_or};
 ghost use Rattle.std.specs.Borrow.{Bor};
 ghost use Rattle.std.specs.Char.{is_ascii_digit};
 ghost use Rattle.std.specs.List.{list_all};
@@ -9,11 +9,12 @@ ghost use Rattle.flash_pages.specs.Chip.{IsWithinLimits, erased_chip};
 ghost use Rattle.flash_pages.specs.MemFlash.{geometry_of, pages_of, plan_of};
 ghost use Rattle.command_words.specs.Limits.{named_numbers, numbers_of};
 ghost use Rattle.command_words.specs.Options.{IsCommand, IsGiven, chip_given, cut_shape, number_said, unit_given};
-ghost use Rattle.command_words.specs.Words.{HasMode, HasNumber, HasValues, IsDrive, IsRead, IsReplay, IsShow};
+ghost use Rattle.command_words.specs.Words.{HasMode, HasNumber, HasValues, IsDrive, IsGen, IsRead, IsReplay};
+ghost use Rattle.command_words.specs.Words.{IsShow, IsSnap, gen_app};
 ghost use Rattle.command_words.specs.Words.{RunsDevice, drive_app, has_flag, is_number, mode_set, named_chip};
-ghost use Rattle.command_words.specs.Words.{named_unit, number_set, replay_app, rows_in, show_app};
+ghost use Rattle.command_words.specs.Words.{named_unit, number_set, replay_app, rows_in, show_app, snap_app};
 
-use crate::commands::{drive_command, replay_command, show_command};
+use crate::commands::{drive_command, gen_command, replay_command, show_command, snap_command};
 use crate::limits::{NamedNumbers, room};
 use clap::ArgMatches;
 use clap::error::ErrorKind;
@@ -32,9 +33,13 @@ const LEAST: Geometry = Geometry {
 #[derive(Clone, Copy, Debug, PartialEq, Eq)]
 pub enum Command {
     /// To replay a trace.
-    Replay(Named),
+    Replay(Replayed),
+    /// To replay a trace, and to write the image of the chip behind the transcript.
+    Snap(Replayed),
     /// To serve the requests of a drive.
     Drive(Driven),
+    /// To run a drive that is made from a seed.
+    Gen(Generated),
     /// To show the lines of a text.
     Show,
 }
@@ -58,15 +63,37 @@ pub struct Named {
     pub unit: Shape,
 }
 
+/// What the words of `replay` and `snap` name.
+#[derive(Clone, Copy, Debug, PartialEq, Eq)]
+pub struct Replayed {
+    /// The chip and the unit.
+    pub named: Named,
+    /// Whether the source begins with an image of the chip.
+    pub image: bool,
+}
+
 /// What the words of `drive` name.
 #[derive(Clone, Copy, Debug, PartialEq, Eq)]
 pub struct Driven {
     /// The chip and the unit.
     pub named: Named,
+    /// Whether the source begins with an image of the chip.
+    pub image: bool,
     /// Whether the driver has no cache.
     pub plain: bool,
     /// Whether only the answers are printed.
     pub answers: bool,
+}
+
+/// What the words of `gen` name.
+#[derive(Clone, Copy, Debug, PartialEq, Eq)]
+pub struct Generated {
+    /// The chip and the unit.
+    pub named: Named,
+    /// What the lines are drawn from.
+    pub seed: u32,
+    /// Whether the driver has no cache.
+    pub plain: bool,
 }
 
 /// The values of the options that are set, and whether each flag is.
@@ -78,7 +105,9 @@ pub(crate) struct Given {
     region: Option<u32>,
     sub: Option<u32>,
     held: Option<u32>,
+    seed: Option<u32>,
     mode: Option<Mode>,
+    image: bool,
     plain: bool,
     answers: bool,
 }
@@ -103,15 +132,19 @@ fn read<'a>(command: clap::Command<'a>, words: &'a [String]) -> Result<ArgMatche
 /// It fails with `Usage` exactly where they aren't in form, or with `Memory`.
 pub fn command_of(alloc: Global, words: &[String]) -> Result<Command, WordsFault>
     ensures command { IfOk result (IsCommand (map string_bytes words.now)) }
-    ensures usage { result ≡ Err WordsFault.Usage → ¬ IsReplay (map string_bytes words.now)
-        × ¬ IsDrive (map string_bytes words.now) × ¬ IsShow (map string_bytes words.now) }
+    ensures usage { result ≡ Err WordsFault.Usage
+        → ¬ IsReplay (map string_bytes words.now) × ¬ IsSnap (map string_bytes words.now)
+        × ¬ IsDrive (map string_bytes words.now) × ¬ IsGen (map string_bytes words.now)
+        × ¬ IsShow (map string_bytes words.now) }
 {
     let Some(command) = first_word(words) else {
         return Err(WordsFault::Usage);
     };
     match command {
-        "replay" => Ok(Command::Replay(replay_of(alloc, words)?.named())),
+        "replay" => Ok(Command::Replay(replay_of(alloc, words)?.replayed())),
+        "snap" => Ok(Command::Snap(snap_of(alloc, words)?.replayed())),
         "drive" => Ok(Command::Drive(drive_of(alloc, words)?.driven())),
+        "gen" => Ok(Command::Gen(gen_of(alloc, words)?.generated())),
         "show" => show_of(alloc, words),
         _ => Err(WordsFault::Usage),
     }
@@ -150,7 +183,9 @@ fn given_of(alloc: Global, words: &[String]) -> Result<Given, WordsFault>
     };
     match command {
         "replay" => replay_of(alloc, words),
+        "snap" => snap_of(alloc, words),
         "drive" => drive_of(alloc, words),
+        "gen" => gen_of(alloc, words),
         _ => Err(WordsFault::Usage),
     }
 }
@@ -167,6 +202,18 @@ fn replay_of(alloc: Global, words: &[String]) -> Result<Given, WordsFault>
     given_by(command, words)
 }
 
+/// What the words behind `snap` give.
+fn snap_of(alloc: Global, words: &[String]) -> Result<Given, WordsFault>
+    ensures given { IfOk result (λ given. IsRead snap_app (map string_bytes words.now)
+        × IsGiven (matches_of snap_app (map string_bytes words.now)) given) }
+    ensures usage { result ≡ Err WordsFault.Usage → ¬ IsRead snap_app (map string_bytes words.now) }
+{
+    let Ok(command) = snap_command(alloc) else {
+        return Err(WordsFault::Memory);
+    };
+    given_by(command, words)
+}
+
 /// What the words behind `drive` give.
 fn drive_of(alloc: Global, words: &[String]) -> Result<Given, WordsFault>
     ensures given { IfOk result (λ given. IsRead drive_app (map string_bytes words.now)
@@ -174,6 +221,18 @@ fn drive_of(alloc: Global, words: &[String]) -> Result<Given, WordsFault>
     ensures usage { result ≡ Err WordsFault.Usage → ¬ IsRead drive_app (map string_bytes words.now) }
 {
     let Ok(command) = drive_command(alloc) else {
+        return Err(WordsFault::Memory);
+    };
+    given_by(command, words)
+}
+
+/// What the words behind `gen` give.
+fn gen_of(alloc: Global, words: &[String]) -> Result<Given, WordsFault>
+    ensures given { IfOk result (λ given. IsRead gen_app (map string_bytes words.now)
+        × IsGiven (matches_of gen_app (map string_bytes words.now)) given) }
+    ensures usage { result ≡ Err WordsFault.Usage → ¬ IsRead gen_app (map string_bytes words.now) }
+{
+    let Ok(command) = gen_command(alloc) else {
         return Err(WordsFault::Memory);
     };
     given_by(command, words)
@@ -214,7 +273,9 @@ fn given_in(matches: &ArgMatches<'_>) -> Result<Given, WordsFault>
         region: number_in(matches, "region")?,
         sub: number_in(matches, "sub")?,
         held: number_in(matches, "held")?,
+        seed: number_in(matches, "seed")?,
         mode: mode_in(matches)?,
+        image: is_flag_set(matches, "image"),
         plain: is_flag_set(matches, "plain"),
         answers: is_flag_set(matches, "answers"),
     })
@@ -222,7 +283,8 @@ fn given_in(matches: &ArgMatches<'_>) -> Result<Given, WordsFault>
 
 /// The value of an option or a flag.
 fn value_of<'a>(matches: &ArgMatches<'a>, name: &str) -> Option<&'a str>
-    ensures { option_map (λ (value : Bor (List ℕ)). value.now) result ≡ first_of name.now (rows_of (found_of matches.now)) }
+    ensures { option_map (λ (value : Bor (List ℕ)). value.now) result
+        ≡ first_of name.now (rows_of (found_of matches.now)) }
 {
     matches.get_str(name)
 }
@@ -269,18 +331,48 @@ fn is_flag_set(matches: &ArgMatches<'_>, name: &str) -> bool
 }
 
 impl Given {
+    /// What is named, and whether there is an image.
+    fn replayed(self) -> Replayed
+        ensures { result ≡ record {
+          named = record { chip = chip_given self; unit = cut_shape (unit_given self) };
+          image = self.image;
+        } }
+    {
+        Replayed {
+            named: self.named(),
+            image: self.image,
+        }
+    }
+
     /// What is named, with the flags.
     fn driven(self) -> Driven
         ensures { result ≡ record {
           named = record { chip = chip_given self; unit = cut_shape (unit_given self) };
+          image = self.image;
           plain = self.plain;
           answers = self.answers;
         } }
     {
         Driven {
             named: self.named(),
+            image: self.image,
             plain: self.plain,
             answers: self.answers,
+        }
+    }
+
+    /// What is named, with the seed.
+    fn generated(self) -> Generated
+        ensures { result ≡ record {
+          named = record { chip = chip_given self; unit = cut_shape (unit_given self) };
+          seed = unwrap_or self.seed 0;
+          plain = self.plain;
+        } }
+    {
+        Generated {
+            named: self.named(),
+            seed: self.seed.unwrap_or(0),
+            plain: self.plain,
         }
     }
 

@@ -2,7 +2,7 @@
 //! from 1 on, with a comma between two; the words of `ufshpb` stand behind it. It tells nothing on standard error.
 #![tactic(auto)]
 
-use command_words::{Command, Named, WordsFault, command_of};
+use command_words::{Command, WordsFault, command_of};
 use flash_pages::{Geometry, MemFlash};
 use hpb_outside::{NoMemory, StdSink, StdSource};
 use std::alloc::Global;
@@ -40,8 +40,9 @@ fn calls_of(alloc: Global, words: &[String]) -> Option<Vec<u64>> {
 /// The chip that the words name, erased, of which these calls fail; the smallest where they name none.
 fn chip_of(alloc: Global, words: &[String], calls: Vec<u64>) -> Result<MemFlash, NoMemory> {
     let chip = match command_of(alloc, words) {
-        Ok(Command::Replay(Named { chip, .. })) => chip,
+        Ok(Command::Replay(replayed) | Command::Snap(replayed)) => replayed.named.chip,
         Ok(Command::Drive(driven)) => driven.named.chip,
+        Ok(Command::Gen(generated)) => generated.named.chip,
         Ok(Command::Show) | Err(WordsFault::Usage) => LEAST,
         Err(WordsFault::Memory) => return Err(NoMemory),
     };

@@ -16,7 +16,7 @@ use Rattle.hpb_device.specs.Standing.{group_of, sizes_of}
 use Rattle.hpb_device.specs.State.{DeviceState}
 use Rattle.replay_standing.specs.Standing.{Standing}
 use Rattle.trace_replay.specs.Moments.{Leads, Cuts, CutLineTo}
-use Rattle.run_output.specs.Writes.{AppendsFront, HasWrittenUpTo}
+use Rattle.hpb_outside.specs.Writes.{AppendsFront, HasWrittenUpTo}
 use Rattle.replay_standing.proofs.Counts.{followed_by-more}
 use Rattle.run_output.proofs.Gathered.{events_gathered}
 use Rattle.replay_standing.proofs.Standing.{run_standing}

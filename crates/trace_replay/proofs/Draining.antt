@@ -12,7 +12,7 @@ use Rattle.hpb_device.specs.State.{DeviceState, AtRest}
 use Rattle.hpb_device.proofs.Going.{resting_tasks}
 use Rattle.replay_standing.specs.Standing.{Standing}
 use Rattle.trace_replay.specs.Moments.{Leads, Cuts, CutLineTo}
-use Rattle.run_output.specs.Writes.{AppendsFront, HasWrittenUpTo}
+use Rattle.hpb_outside.specs.Writes.{AppendsFront, HasWrittenUpTo}
 use Rattle.replay_standing.proofs.Standing.{Stepping, after_step, few_steps, step_leads, step_standing, tracked, with_runs}
 use Rattle.run_output.proofs.Gathered.{events_gathered}
 use Rattle.replay_standing.proofs.Making.{drains_fewer}

@@ -1,5 +1,5 @@
 -- The sentences of the headline follow from what a run promises.
-use Rattle.std.proofs.Common.{◌≡◌, ◌⊎◌, ℕ, ◌+◌, List, [], ◌++◌, Option, Some, refl, sym, subst, inl, inr}
+use Rattle.std.proofs.Common.{◌≡◌, true, ◌⊎◌, ℕ, ◌+◌, List, [], ◌++◌, Option, Some, refl, sym, subst, inl, inr}
 use Rattle.std.proofs.lemmas.List.{append-nil}
 use Rattle.std.specs.Io.KnownBytes.{Appends}
 use Rattle.hpb_outside.specs.Faults.{Rose}
@@ -14,16 +14,19 @@ use Rattle.trace_replay.specs.ByText.{is_shown_line, is_trace_line, status_of}
 use Rattle.trace_replay.specs.Headline.{AreLastWords, DrainsAll, EndsByText, Tells}
 use Rattle.hpb_device.specs.declared.counts.Counts.{Counts}
 use Rattle.flash_pages.specs.Chip.{Page}
-use Rattle.trace_replay.specs.Run.{IsCutShort, IsPlanned, ProgramIs, RunIs}
+use Rattle.trace_replay.specs.Programs.{IsPlanned, ReplayIs, ReplayProgramIs, ReplayServes}
+use Rattle.trace_replay.specs.Run.{IsCutShort, RunIs}
+use Rattle.trace_replay.specs.Serving.{Found, ServesIfAny}
+use Rattle.trace_replay.proofs.Serving.{found_of, served_program, serves_as}
 use Rattle.run_output.specs.Ends.{SinkEnds, SourceEnds}
 use Rattle.run_output.specs.Texts.{bad_line_text, counts_text, long_text}
 use Rattle.trace_replay.specs.Showing.{ShowIs, ShowProgramIs}
-use Rattle.replay_standing.specs.Transcript.{IsChipOf, IsPlain, IsTranscript, SendsUnready, sizes_on, unit_on}
-use Rattle.command_words.specs.Words.{named_unit}
+use Rattle.replay_standing.specs.Transcript.{IsChipOf, IsPlain, SendsUnready, sizes_on, unit_on}
+use Rattle.command_words.specs.Limits.{IsNamed}
+use Rattle.command_words.specs.Words.{IsReplay, has_image, named_unit}
 use Rattle.run_output.specs.declared.status.Status.{Status}
 use Rattle.run_output.specs.declared.status.Status.TheVariants.{Done, BadLine, ReadFault, WriteFault, LongTrace, Usage, Memory, Geometry as BadGeometry, ChipFault, BadImage, BadCapture}
 use Rattle.trace_replay.proofs.ByText.{all_parsed, all_shown, begins_bad, begins_unshown, told_bad, told_done, told_long}
-use Rattle.run_output.proofs.Written.{appends_nothing}
 
 worded : (a b : Option (List ℕ)) (text : List ℕ) → Appends a b text → Appends a b (text ++ [])
 worded a b text = subst (Appends a b) (sym (append-nil text))
@@ -72,82 +75,6 @@ tells_run P s good counted left left_now w w_now limit ChipFault leads plain non
 tells_run P s good counted left left_now w w_now limit (BadImage fault) leads plain none = absurd none
 tells_run P s good counted left left_now w w_now limit (BadCapture offset fault) leads plain none = absurd none
 
--- the same of a program whose words and chip are as planned
-planned_run : (words : List (List ℕ)) (geometry : Geometry) (good : Progress → Type 0) (counted : Progress → Counts → Type 0) (same : Type 0) (left left_now w w_now : Option (List ℕ)) (limit : ℕ)
-    (status : Status)
-    → IsPlanned words geometry → ProgramIs words geometry good counted same left left_now w w_now limit status
-    → ((status ≡ Memory) × (w_now ≡ w)) ⊎ RunIs (sizes_on (named_unit words) geometry) good counted left left_now w w_now limit status
-planned_run words geometry good counted same left left_now w w_now limit Usage (replay, named) (other, _, _) = absurd (other replay)
-planned_run words geometry good counted same left left_now w w_now limit BadGeometry (replay, named) (_, other, _, _) = absurd (other named)
-planned_run words geometry good counted same left left_now w w_now limit Memory planned (_, none) = inl (refl, none)
-planned_run words geometry good counted same left left_now w w_now limit WriteFault (replay, named) (inl (text, inl (other, _), _, _)) = absurd (other replay)
-planned_run words geometry good counted same left left_now w w_now limit WriteFault (replay, named) (inl (text, inr (_, other, _), _, _)) = absurd (other named)
-planned_run words geometry good counted same left left_now w w_now limit WriteFault planned (inr (_, run)) = inr run
-planned_run words geometry good counted same left left_now w w_now limit Done planned (_, run) = inr run
-planned_run words geometry good counted same left left_now w w_now limit (BadLine number) planned (_, run) = inr run
-planned_run words geometry good counted same left left_now w w_now limit ReadFault planned (_, run) = inr run
-planned_run words geometry good counted same left left_now w w_now limit LongTrace planned (_, run) = inr run
-planned_run words geometry good counted same left left_now w w_now limit ChipFault planned (_, run) = inr run
-planned_run words geometry good counted same left left_now w w_now limit (BadImage fault) planned (_, run) = inr run
-planned_run words geometry good counted same left left_now w w_now limit (BadCapture offset fault) planned (_, run) = inr run
-
-no_text : (known : Option (List ℕ)) → Appends known known (print [] ++ [])
-unfolding print
-no_text known = appends_nothing known
-
--- no events are plain
-none_plain : IsPlain []
-none_plain = record { bytes = tt; short = tt }
-
-tells_program : (P : History → Type 0) (words : List (List ℕ)) (geometry : Geometry) (good : Progress → Type 0) (counted : Progress → Counts → Type 0) (same : Type 0)
-    (left left_now w w_now : Option (List ℕ)) (limit : ℕ) (status : Status)
-    → P [] → ((p : Progress) → good p → P p.events) → ((p : Progress) → good p → IsPlain p.events)
-    → IsPlanned words geometry → ProgramIs words geometry good counted same left left_now w w_now limit status → Tells status w w_now P
-tells_program P words geometry good counted same left left_now w w_now limit status none leads plain planned program = by_run
-    (planned_run words geometry good counted same left left_now w w_now limit status planned program)
-  where
-    by_run : ((status ≡ Memory) × (w_now ≡ w)) ⊎ RunIs (sizes_on (named_unit words) geometry) good counted left left_now w w_now limit status → Tells status w w_now P
-    by_run (inl (is, nothing)) = subst (λ (s : Status). Tells s w w_now P) (sym is)
-        (record { events = []; words = []; plain = none_plain; last = inl refl; holds = none; written = subst (λ (now : Option (List ℕ)). Appends w now (print [] ++ [])) (sym nothing) (no_text w) })
-    by_run (inr run) = tells_run P (sizes_on (named_unit words) geometry) good counted left left_now w w_now limit status leads plain run
-
-module _ (words : List (List ℕ)) (geometry : Geometry) (faults faults_back : ℕ) (chip back : List Page) (counted : Progress → Counts → Type 0) (same : Type 0) (left left_now w w_now : Option (List ℕ))
-    (status : Status) (planned : IsPlanned words geometry)
-    (program : ProgramIs words geometry (IsTranscript (named_unit words) geometry faults faults_back chip back) counted same left left_now w w_now 1000000 status) where
-  pub tells_allowed : IsChipOf (named_unit words) geometry chip → Tells status w w_now (ReadsAllowed (sizes_on (named_unit words) geometry) (unit_on (named_unit words) chip))
-  tells_allowed sound =
-      tells_program _ words geometry _ counted same left left_now w w_now 1000000 status tt (λ p is. reads_allowed _ _ p.events (is.own sound).sound.so_far) (λ p is. is.plain) planned program
-
-  pub tells_good : IsChipOf (named_unit words) geometry chip → Tells status w w_now (ReadsEndGood (sizes_on (named_unit words) geometry))
-  tells_good sound =
-      tells_program _ words geometry _ counted same left left_now w w_now 1000000 status tt (λ p is. reads_end_well _ _ _ p.events (is.own sound).sound.so_far (is.own sound).caused) (λ p is. is.plain)
-      planned program
-
-  pub tells_unready : ¬ IsChipOf (named_unit words) geometry chip → Tells status w w_now (SendsUnready (sizes_on (named_unit words) geometry))
-  tells_unready unsound =
-      tells_program _ words geometry _ counted same left left_now w w_now 1000000 status tt (λ p is. (is.foreign unsound).unready) (λ p is. is.plain) planned program
-
--- a run that took all lines drains its reads
-pub drains_all : (words : List (List ℕ)) (geometry : Geometry) (good : Progress → Type 0) (counted : Progress → Counts → Type 0) (same : Type 0) (left left_now w w_now : Option (List ℕ)) (limit : ℕ)
-    (status : Status)
-    → ProgramIs words geometry good counted same left left_now w w_now limit status → status ≡ Done → DrainsAll (sizes_on (named_unit words) geometry) left left_now w w_now
-drains_all words geometry good counted same left left_now w w_now limit status program is = by_done
-    (subst (λ (s : Status). ProgramIs words geometry good counted same left left_now w w_now limit s) is program)
-  where
-    by_done : ProgramIs words geometry good counted same left left_now w w_now limit Done → DrainsAll (sizes_on (named_unit words) geometry) left left_now w w_now
-    by_done (_, (mid, n, ran, few, ends)) = record {
-      texts = ran.texts;
-      lines = ran.lines;
-      moment = ran.moment;
-      mid = mid;
-      taken = ran.taken;
-      ends = ends;
-      parsed = ran.parsed;
-      drains = ran.drains;
-      counts = ran.shows.1.0;
-      printed = ran.shows.1.2;
-    }
-
 -- how a told text ends a run without faults
 run_by_text : (s : Sizes) (good : Progress → Type 0) (counted : Progress → Counts → Type 0) (text : List ℕ) (left_now w w_now : Option (List ℕ)) (limit : ℕ) (status : Status)
     → (status ≡ ReadFault → ⊥) → (status ≡ WriteFault → ⊥)
@@ -174,19 +101,70 @@ no_read_fault before now status ends none is = none (subst (SourceEnds before no
 no_write_fault : (before now : ℕ) (status : Status) → SinkEnds before now status → (Rose before now → ⊥) → status ≡ WriteFault → ⊥
 no_write_fault before now status ends none is = none (subst (SinkEnds before now) is ends).rose
 
-pub ends_by_text : (words : List (List ℕ)) (geometry : Geometry) (good : Progress → Type 0) (counted : Progress
-    → Counts → Type 0) (same : Type 0) (left left_now w w_now : Option (List ℕ)) (source source_now sink sink_now : ℕ) (status : Status) → IsPlanned words geometry
-    → ProgramIs words geometry good counted same left left_now w w_now 1000000 status → SourceEnds source source_now status → SinkEnds sink sink_now status
-    → EndsByText is_trace_line left source source_now sink sink_now status
-ends_by_text words geometry good counted same left left_now w w_now source source_now sink sink_now status planned program source_ends sink_ends text told read write =
-    by_run (planned_run words geometry good counted same left left_now w w_now 1000000 status planned program)
+module _ (words : List (List ℕ)) (geometry : Geometry) (pages back : List Page) (faults faults_back : ℕ) (same : Type 0) (left left_now w w_now : Option (List ℕ)) (status : Status)
+    (planned : IsPlanned words geometry) (program : ReplayProgramIs words geometry pages back faults faults_back same left left_now w w_now status) where
+  -- what is known of each replay that a program ends with
+  of_replay : (fact : List Page → Option (List ℕ) → Status → Type 0)
+      → ((chip : List Page) (mid : Option (List ℕ)) → ReplayIs (named_unit words) geometry chip back faults faults_back mid left_now w w_now status → fact chip mid status)
+      → ServesIfAny (has_image words) true geometry pages back left left_now w w_now fact status
+  of_replay fact leads = elim (served_program (IsReplay words) (IsNamed words geometry) same
+      (ReplayServes (named_unit words) (has_image words) true geometry pages back faults faults_back left left_now w w_now) w w_now status planned.0 planned.1 program) [
+        | inl none ↦ inl none
+        | inr serves ↦ inr (serves_as (has_image words) true geometry pages back left left_now w w_now
+            (λ chip mid. ReplayIs (named_unit words) geometry chip back faults faults_back mid left_now w w_now) fact status leads serves)
+      ]
+
+  pub tells_allowed : ServesIfAny (has_image words) true geometry pages back left left_now w w_now
+      (λ chip _ status. IsChipOf (named_unit words) geometry chip → Tells status w w_now (ReadsAllowed (sizes_on (named_unit words) geometry) (unit_on (named_unit words) chip))) status
+  tells_allowed = of_replay (λ chip _ s. IsChipOf (named_unit words) geometry chip → Tells s w w_now (ReadsAllowed (sizes_on (named_unit words) geometry) (unit_on (named_unit words) chip))) (λ chip mid run sound.
+      tells_run _ (sizes_on (named_unit words) geometry) _ _ mid left_now w w_now 1000000 status (λ p is. reads_allowed _ _ p.events (is.own sound).sound.so_far) (λ p is. is.plain) run)
+
+  pub tells_good : ServesIfAny (has_image words) true geometry pages back left left_now w w_now
+      (λ chip _ status. IsChipOf (named_unit words) geometry chip → Tells status w w_now (ReadsEndGood (sizes_on (named_unit words) geometry))) status
+  tells_good = of_replay (λ chip _ s. IsChipOf (named_unit words) geometry chip → Tells s w w_now (ReadsEndGood (sizes_on (named_unit words) geometry))) (λ chip mid run sound.
+      tells_run _ (sizes_on (named_unit words) geometry) _ _ mid left_now w w_now 1000000 status (λ p is. reads_end_well _ _ _ p.events (is.own sound).sound.so_far (is.own sound).caused) (λ p is. is.plain)
+      run)
+
+  pub tells_unready : ServesIfAny (has_image words) true geometry pages back left left_now w w_now
+      (λ chip _ status. ¬ IsChipOf (named_unit words) geometry chip → Tells status w w_now (SendsUnready (sizes_on (named_unit words) geometry))) status
+  tells_unready = of_replay (λ chip _ s. ¬ IsChipOf (named_unit words) geometry chip → Tells s w w_now (SendsUnready (sizes_on (named_unit words) geometry))) (λ chip mid run unsound.
+      tells_run _ (sizes_on (named_unit words) geometry) _ _ mid left_now w w_now 1000000 status (λ p is. (is.foreign unsound).unready) (λ p is. is.plain) run)
+
+  pub ends_by_text : (source source_now sink sink_now : ℕ) → SourceEnds source source_now status → SinkEnds sink sink_now status
+      → ServesIfAny (has_image words) true geometry pages back left left_now w w_now (λ _ mid. EndsByText is_trace_line mid source source_now sink sink_now) status
+  ends_by_text source source_now sink sink_now source_ends sink_ends = of_replay (λ _ mid. EndsByText is_trace_line mid source source_now sink sink_now) (λ chip mid run text told read write.
+      inr (run_by_text (sizes_on (named_unit words) geometry) _ _ text left_now w w_now 1000000 status (no_read_fault source source_now status source_ends read)
+      (no_write_fault sink sink_now status sink_ends write)
+      (subst (λ (l : Option (List ℕ)). ReplayIs (named_unit words) geometry chip back faults faults_back l left_now w w_now status) told run)))
+
+-- a replay that took all lines drains its reads
+pub drains_all : (words : List (List ℕ)) (geometry : Geometry) (pages back : List Page) (faults faults_back : ℕ) (same : Type 0) (left left_now w w_now : Option (List ℕ)) (status : Status)
+    → ReplayProgramIs words geometry pages back faults faults_back same left left_now w w_now status → status ≡ Done
+    → Found (has_image words) geometry pages left (λ _ mid. DrainsAll (sizes_on (named_unit words) geometry) mid left_now w w_now)
+drains_all words geometry pages back faults faults_back same left left_now w w_now status program is = by_done
+    (subst (λ (s : Status). ReplayProgramIs words geometry pages back faults faults_back same left left_now w w_now s) is program)
   where
-    by_run : ((status ≡ Memory) × (w_now ≡ w)) ⊎ RunIs (sizes_on (named_unit words) geometry) good counted left left_now w w_now 1000000 status → (status ≡ Memory)
-        ⊎ (status ≡ status_of is_trace_line 1000000 text)
-    by_run (inl (is, _)) = inl is
-    by_run (inr run) = inr (run_by_text (sizes_on (named_unit words) geometry) good counted text left_now w w_now 1000000 status (no_read_fault source source_now status source_ends read)
-        (no_write_fault sink sink_now status sink_ends write)
-        (subst (λ (l : Option (List ℕ)). RunIs (sizes_on (named_unit words) geometry) good counted l left_now w w_now 1000000 status) told run))
+    drains_run : (chip : List Page) (mid : Option (List ℕ)) → ReplayIs (named_unit words) geometry chip back faults faults_back mid left_now w w_now Done
+        → DrainsAll (sizes_on (named_unit words) geometry) mid left_now w w_now
+    drains_run chip mid (at, n, ran, few, ends) = record {
+      texts = ran.texts;
+      lines = ran.lines;
+      moment = ran.moment;
+      mid = at;
+      taken = ran.taken;
+      ends = ends;
+      parsed = ran.parsed;
+      drains = ran.drains;
+      counts = ran.shows.1.0;
+      printed = ran.shows.1.2;
+    }
+
+    by_done : ReplayProgramIs words geometry pages back faults faults_back same left left_now w w_now Done
+        → Found (has_image words) geometry pages left (λ _ mid. DrainsAll (sizes_on (named_unit words) geometry) mid left_now w w_now)
+    by_done (_, _, serves) =
+        let (chip, mid, finds, run) = found_of (has_image words) true geometry pages back left left_now w w_now
+        (λ chip mid. ReplayIs (named_unit words) geometry chip back faults faults_back mid left_now w w_now) Done (λ none. none) serves in
+        (chip, mid, finds, drains_run chip mid run)
 
 show_by_text : (text : List ℕ) (left_now w w_now : Option (List ℕ)) (limit : ℕ) (status : Status) → (status ≡ ReadFault → ⊥) → (status ≡ WriteFault → ⊥)
     → ShowIs (Some text) left_now w w_now limit status → status ≡ status_of is_shown_line limit text

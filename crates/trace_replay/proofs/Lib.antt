@@ -11,3 +11,7 @@ pub mod Runs
 pub mod Shown
 pub mod Transcripts
 pub mod Turns
+pub mod Serving
+pub mod Naming
+pub mod Snapping
+pub mod MadeDrives

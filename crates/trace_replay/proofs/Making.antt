@@ -14,7 +14,7 @@ use Rattle.hpb_device.proofs.Going.{at_rest_of}
 use Rattle.hpb_device.proofs.Left.{rest_left}
 use Rattle.replay_standing.specs.Standing.{Standing, LacksEnough}
 use Rattle.trace_replay.specs.Moments.{Leads, Cuts, CutLineTo}
-use Rattle.run_output.specs.Writes.{AppendsFront, HasWrittenUpTo}
+use Rattle.hpb_outside.specs.Writes.{AppendsFront, HasWrittenUpTo}
 use Rattle.replay_standing.proofs.Standing.{Stepping, after_step, all_weaker, run_standing, step_leads, step_standing, with_runs}
 use Rattle.run_output.proofs.Gathered.{events_gathered}
 use Rattle.replay_standing.proofs.Making.{LacksBeside, lacks_beside, after_rest, rests_at, rest_leads, rest_standing, lacks_down}

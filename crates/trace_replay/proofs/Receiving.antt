@@ -13,7 +13,7 @@ use Rattle.hpb_device.specs.Standing.{answer_events, sizes_of}
 use Rattle.hpb_device.specs.State.{DeviceState}
 use Rattle.replay_standing.specs.Standing.{Standing}
 use Rattle.trace_replay.specs.Moments.{Leads}
-use Rattle.run_output.specs.Writes.{HasWrittenUpTo}
+use Rattle.hpb_outside.specs.Writes.{HasWrittenUpTo}
 use Rattle.run_output.proofs.Gathered.{events_gathered}
 use Rattle.run_output.proofs.Written.{gathers_more}
 use Rattle.replay_standing.proofs.Receiving.{Received, WasReset, reset_standing, told_events, told_standing}

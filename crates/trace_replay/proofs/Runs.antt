@@ -24,8 +24,9 @@ use Rattle.trace_replay.specs.Moments.{Leads, Cuts}
 use Rattle.run_output.specs.Ends.{HasMore, LastIs, ReadsAhead, StopsWithinLine}
 use Rattle.trace_replay.specs.Run.{IsBadNext, IsCutNext, IsCutShort, Ran, RunIs}
 use Rattle.run_output.specs.Texts.{bad_line_text, counts_text, long_text}
-use Rattle.run_output.specs.Writes.{AppendsFront, HasWrittenUpTo}
-use Rattle.run_output.proofs.Written.{front_wordless, nothing_yet}
+use Rattle.hpb_outside.specs.Writes.{AppendsFront, HasWrittenUpTo}
+use Rattle.hpb_outside.proofs.Written.{nothing_yet}
+use Rattle.run_output.proofs.Written.{front_wordless}
 use Rattle.run_output.proofs.Ended.{takes_more}
 use Rattle.replay_standing.proofs.Beginning.{sound_at, begun_standing}
 

@@ -12,9 +12,10 @@ use Rattle.run_output.specs.declared.status.Status.TheVariants.{Done, BadLine, R
 use Rattle.run_output.specs.Ends.{HasMore, LastIs, ReadsAhead}
 use Rattle.run_output.specs.Texts.{bad_line_text, long_text}
 use Rattle.trace_replay.specs.Showing.{IsShownShort, IsUnshown, ShowIs, Shows}
-use Rattle.run_output.specs.Writes.{AppendsFront, HasWrittenUpTo}
+use Rattle.hpb_outside.specs.Writes.{AppendsFront, HasWrittenUpTo}
 use Rattle.run_output.proofs.Ended.{takes_more}
-use Rattle.run_output.proofs.Written.{wordless, nothing_yet}
+use Rattle.hpb_outside.proofs.Written.{nothing_yet}
+use Rattle.run_output.proofs.Written.{wordless}
 
 pub some_of : (o : Option (List ℕ)) → is_some o ≡ true → o ≡ Some (option_map_or (λ (text : List ℕ). text) o [])
 some_of None some = absurd (false≢true some)

@@ -1,6 +1,5 @@
 -- What a run promises of its events and of the chip, from where its device was left.
-use Rattle.std.proofs.Common.{◌≡◌, ℕ, ◌*◌, ◌-◌, ◌^◌, ◌<◌, ◌≤◌, min, List, [], ◌∷◌, ◌++◌, Option, Some, None, refl, sym, ◌∙◌, ap, subst, arith, inl, inr, ◌⊎◌}
-use Rattle.std.specs.Io.KnownBytes.{Appends}
+use Rattle.std.proofs.Common.{◌≡◌, ℕ, ◌*◌, ◌-◌, ◌^◌, ◌<◌, ◌≤◌, min, List, [], ◌∷◌, ◌++◌, Option, Some, None, Result, sym, ◌∙◌, ap, subst, arith, inl, inr}
 use Rattle.std.specs.Prelude.{Contains, Bool, true, false, not, ◌&&◌, ◌==◌}
 use Rattle.std.proofs.Math.Nat.{mul-le-mul}
 use Rattle.std.proofs.lemmas.Bool.Decides.{nat_tests}
@@ -32,29 +31,22 @@ use Rattle.flash_store.specs.Index.{CanServe}
 use Rattle.region_state.specs.Shape.{IsWithinLimits}
 use Rattle.command_words.specs.Options.{cut_shape}
 use Rattle.command_words.specs.Limits.{IsNamed}
-use Rattle.trace_replay.specs.Run.{IsPlanned, ProgramIs, RunIs, geometry_text}
-use Rattle.run_output.specs.Writes.{AppendsFront}
+use Rattle.trace_replay.specs.Beginning.{IsFresh, IsServedBy}
+use Rattle.chip_image.specs.Load.{Loads}
+use Rattle.chip_image.specs.declared.fault.ImageFault.{ImageFault}
+use Rattle.trace_replay.specs.Programs.{ReplayIs}
+use Rattle.trace_replay.specs.Serving.{Finds}
+use Rattle.trace_replay.specs.Run.{RunIs}
 use Rattle.trace_replay.specs.Showing.{ShowIs, ShowProgramIs}
 use Rattle.flat_unit.specs.Counts.{Counted}
 use Rattle.flat_unit.specs.Hints.{Hinted}
 use Rattle.hpb_device.proofs.CountingCalls.{counted_of}
 use Rattle.replay_standing.specs.Transcript.{AreCounts, AreCountsOn, FitTranscript, HasNoMore, IsChipOf, IsRefused, IsServed, IsTranscript, SendsUnready, has_page, sizes_on, unit_on}
-use Rattle.command_words.specs.Words.{IsReplay, named_chip, named_unit}
+use Rattle.command_words.specs.Words.{named_chip, named_unit}
 use Rattle.region_state.specs.declared.shape.Shape.{Shape}
 use Rattle.run_output.specs.declared.status.Status.{Status}
 use Rattle.run_output.specs.declared.status.Status.TheVariants.{Done, BadLine, ReadFault, WriteFault, LongTrace, Usage, Memory, Geometry as BadGeometry, ChipFault, BadImage, BadCapture}
 use Rattle.trace_replay.proofs.Runs.{ran_with}
-
--- a device that was made over a chip
-pub record IsFresh (device : DeviceState) (shape : Shape) (geometry : Geometry) (pages : List Page) (faults : ℕ) : Type 0 where
-  pub shape_is : device.shape ≡ shape
-  pub luns : device.store.luns ≡ 1
-  pub units : device.store.units ≡ shape.units
-  pub pages_are : device.store.pages ≡ pages
-  pub geometry_is : device.store.geometry ≡ geometry
-  pub faults_are : device.store.faults ≡ faults
-  pub some_block : 1 ≤ geometry.blocks
-  pub some_page : 1 ≤ geometry.pages
 
 -- what is said of a device's chip
 pub record OnChip : Type 0 where
@@ -226,45 +218,25 @@ ends_in_source (Some text) (x ∷ held) (Some rest) ends = absurd (is_none ends.
     is_none : x ∷ (held ++ rest) ≡ [] → ⊥
     is_none is = cc
 
--- a replay that ended is what the program ends with
-program_of : (words : List (List ℕ)) (geometry : Geometry) (good : Progress → Type 0) (counted : Progress → Counts → Type 0) (same : Type 0) (left left_now w w_now : Option (List ℕ)) (limit : ℕ)
-    (status : Status)
-    → IsPlanned words geometry → RunIs (sizes_on (named_unit words) geometry) good counted left left_now w w_now limit status
-    → ProgramIs words geometry good counted same left left_now w w_now limit status
-program_of words geometry good counted same left left_now w w_now limit Done planned run = (planned, run)
-program_of words geometry good counted same left left_now w w_now limit (BadLine number) planned run = (planned, run)
-program_of words geometry good counted same left left_now w w_now limit ReadFault planned run = (planned, run)
-program_of words geometry good counted same left left_now w w_now limit LongTrace planned run = (planned, run)
-program_of words geometry good counted same left left_now w w_now limit WriteFault planned run = inr (planned, run)
-program_of words geometry good counted same left left_now w w_now limit Usage planned run = absurd run
-program_of words geometry good counted same left left_now w w_now limit Memory planned run = absurd run
-program_of words geometry good counted same left left_now w w_now limit BadGeometry planned run = absurd run
-program_of words geometry good counted same left left_now w w_now limit ChipFault planned run = absurd run
-program_of words geometry good counted same left left_now w w_now limit (BadImage fault) planned run = absurd run
-program_of words geometry good counted same left left_now w w_now limit (BadCapture offset fault) planned run = absurd run
-
--- the promise of a run, in terms of the chip
-pub run_of_chip : (words : List (List ℕ)) (geometry : Geometry) (start now : DeviceState) (pages back : List Page) (faults faults_back : ℕ) (same : Type 0) (left left_now w w_now : Option (List ℕ))
-    (held : List ℕ) (limit : ℕ) (status : Status)
-    → IsPlanned words geometry → IsFresh start (named_unit words) geometry pages faults → held ≡ [] → back ≡ now.store.pages → faults_back ≡ now.store.faults
-    → RunIs (sizes_of start) (Standing start now) (AreCountsOf start) (prepend_known held left) left_now w w_now limit status
-    → ProgramIs words geometry (IsTranscript (named_unit words) geometry faults faults_back pages back) (AreCountsOn (named_unit words) geometry pages) same left left_now w w_now limit status
-run_of_chip words geometry start now pages back faults faults_back same left left_now w w_now held limit status planned fresh none is_back is_faults run =
-    let good : Progress → Type 0 = IsTranscript (named_unit words) geometry faults faults_back pages back in
+-- the promise of a replay, in terms of the chip
+pub replay_of_chip : (unit : Shape) (geometry : Geometry) (start now : DeviceState) (pages back : List Page) (faults faults_back : ℕ) (left left_now w w_now : Option (List ℕ)) (held : List ℕ) (status : Status)
+    → IsFresh start unit geometry pages faults → held ≡ [] → back ≡ now.store.pages → faults_back ≡ now.store.faults
+    → RunIs (sizes_of start) (Standing start now) (AreCountsOf start) (prepend_known held left) left_now w w_now 1000000 status
+    → ReplayIs unit geometry pages back faults faults_back left left_now w w_now status
+replay_of_chip unit geometry start now pages back faults faults_back left left_now w w_now held status fresh none is_back is_faults run =
+    let good : Progress → Type 0 = IsTranscript unit geometry faults faults_back pages back in
     let from : prepend_known held left ≡ left = ap (λ (l : List ℕ). prepend_known l left) none ∙ prepend_known-nil left in
-    let unit = named_unit words in
     let counts = AreCountsOn unit geometry pages in
     let there : OnChip = named_on unit geometry pages in
     let sized : Sizes → (OnChip → Progress → Counts → Type 0) = λ s c. AreCounts s (c.geometry.blocks * c.geometry.pages) c.geometry.pages (erased_count c.pages)
     (ChipOk c.geometry c.luns c.units c.pages) in
-    let run0 : RunIs (sizes_of start) (Standing start now) (sized (sizes_of start) there) left left_now w w_now limit status =
-    subst (λ (c : OnChip). RunIs (sizes_of start) (Standing start now) (sized (sizes_of start) c) left left_now w w_now limit status) (start_chip start now unit geometry pages faults fresh)
-    (subst (λ (l : Option (List ℕ)). RunIs (sizes_of start) (Standing start now) (AreCountsOf start) l left_now w w_now limit status) from run) in
-    let run1 : RunIs (sizes_on unit geometry) (Standing start now) counts left left_now w w_now limit status =
-    subst (λ (s : Sizes). RunIs s (Standing start now) (sized s there) left left_now w w_now limit status) (fresh_sizes start now unit geometry pages faults fresh) run0 in
-    program_of words geometry good counts same left left_now w w_now limit status planned
-    (run_shows (sizes_on (named_unit words) geometry) (Standing start now) good counts left left_now w w_now limit status
-    (λ p at. left_transcript start now (named_unit words) geometry pages back faults faults_back p fresh is_back is_faults at) run1)
+    let run0 : RunIs (sizes_of start) (Standing start now) (sized (sizes_of start) there) left left_now w w_now 1000000 status =
+    subst (λ (c : OnChip). RunIs (sizes_of start) (Standing start now) (sized (sizes_of start) c) left left_now w w_now 1000000 status) (start_chip start now unit geometry pages faults fresh)
+    (subst (λ (l : Option (List ℕ)). RunIs (sizes_of start) (Standing start now) (AreCountsOf start) l left_now w w_now 1000000 status) from run) in
+    let run1 : RunIs (sizes_on unit geometry) (Standing start now) counts left left_now w w_now 1000000 status =
+    subst (λ (s : Sizes). RunIs s (Standing start now) (sized s there) left left_now w w_now 1000000 status) (fresh_sizes start now unit geometry pages faults fresh) run0 in
+    run_shows (sizes_on unit geometry) (Standing start now) good counts left left_now w w_now 1000000 status
+    (λ p at. left_transcript start now unit geometry pages back faults faults_back p fresh is_back is_faults at) run1
 
 -- what was shown of a text that comes from a source alone
 pub show_from_source : (left left_now w w_now : Option (List ℕ)) (held : List ℕ) (limit : ℕ) (status : Status) → held ≡ []
@@ -295,17 +267,23 @@ within_cut shape limits = uncut shape (omega (arith, limits.units)) (omega (arit
 
 -- what the device says of the shape that was cut, of the shape that the words name
 
-pub names_chip : (words : List (List ℕ)) (geometry chip : Geometry) (unit : Shape) → chip ≡ named_chip words → unit ≡ cut_shape (named_unit words) → geometry ≡ chip
-    → IsWithinLimits unit × CanServe geometry 1 unit.units → IsNamed words geometry × (unit ≡ named_unit words)
-names_chip words geometry chip unit chip_is unit_is same (limits, serves) =
-    let is : unit ≡ named_unit words = unit_is ∙ within_cut (named_unit words) (subst IsWithinLimits unit_is limits) in
-    ((same ∙ chip_is, subst IsWithinLimits is limits, subst (λ (s : Shape). CanServe geometry 1 s.units) is serves), is)
+pub serves_unit : (chip geometry : Geometry) (unit cut : Shape) → cut ≡ cut_shape unit → geometry ≡ chip → IsWithinLimits cut × CanServe geometry 1 cut.units
+    → IsServedBy chip unit geometry × (cut ≡ unit)
+serves_unit chip geometry unit cut cut_is same (limits, serves) =
+    let is : cut ≡ unit = cut_is ∙ within_cut unit (subst IsWithinLimits cut_is limits) in
+    ((same, subst IsWithinLimits is limits, subst (λ (s : Shape). CanServe geometry 1 s.units) is serves), is)
 
-pub names_no_chip : (words : List (List ℕ)) (geometry : Geometry) (unit : Shape) → unit ≡ cut_shape (named_unit words)
-    → ¬ (IsWithinLimits unit × CanServe geometry 1 unit.units) → ¬ IsNamed words geometry
-names_no_chip words geometry unit unit_is none (same, limits, serves) =
-    let is : named_unit words ≡ unit = sym (unit_is ∙ cut_within (named_unit words) limits) in
+pub serves_no_unit : (chip geometry : Geometry) (unit cut : Shape) → cut ≡ cut_shape unit → ¬ (IsWithinLimits cut × CanServe geometry 1 cut.units) → ¬ IsServedBy chip unit geometry
+serves_no_unit chip geometry unit cut cut_is none (same, limits, serves) =
+    let is : unit ≡ cut = sym (cut_is ∙ cut_within unit limits) in
     none (subst IsWithinLimits is limits, subst (λ (s : Shape). CanServe geometry 1 s.units) is serves)
+
+-- a chip that serves what the words name is the named one
+pub names_served : (words : List (List ℕ)) (chip geometry : Geometry) → chip ≡ named_chip words → IsServedBy chip (named_unit words) geometry → IsNamed words geometry
+names_served words chip geometry is served = subst (λ (c : Geometry). IsServedBy c (named_unit words) geometry) is served
+
+pub serves_named : (words : List (List ℕ)) (chip geometry : Geometry) → chip ≡ named_chip words → IsNamed words geometry → IsServedBy chip (named_unit words) geometry
+serves_named words chip geometry is named = subst (λ (c : Geometry). IsServedBy c (named_unit words) geometry) (sym is) named
 
 -- a test of two geometries
 
@@ -321,13 +299,14 @@ other_chip a b differs test some same =
     let pages : a.pages ≡ b.pages = ap (λ (g : Geometry). g.pages) same in
     absurd (grind (arith, nat_tests))
 
--- a run that is refused
+-- what was loaded, in terms of the chip that was handed in
+pub loads_over : (geometry over : Geometry) (old pages new back : List Page) (left left_now : Option (List ℕ)) (r : Result (Unit {0}) ImageFault) → over ≡ geometry → old ≡ pages → back ≡ new
+    → Loads over old new left left_now r → Loads geometry pages back left left_now r
+loads_over geometry over old pages new back left left_now r geometry_is pages_are back_is loads =
+    subst (λ (b : List Page). Loads geometry pages b left left_now r) (sym back_is)
+    (subst (λ (p : List Page). Loads geometry p new left left_now r) pages_are (subst (λ (x : Geometry). Loads x old new left left_now r) geometry_is loads))
 
-pub refused_geometry : {A B : Type 0} (words : List (List ℕ)) (geometry : Geometry) (good : Progress → Type 0) (counted : Progress → Counts → Type 0) (same : Type 0)
-    (left left_now w w_now : Option (List ℕ)) (limit : ℕ) (status : Status)
-    → IsReplay words → ¬ IsNamed words geometry → same → ((status ≡ BadGeometry) × Appends w w_now geometry_text × A) ⊎ ((status ≡ WriteFault) × AppendsFront w w_now geometry_text × B)
-    → ProgramIs words geometry good counted same left left_now w w_now limit status
-refused_geometry words geometry good counted same left left_now w w_now limit status replay differs kept (inl (is, all, _)) =
-    subst (λ (s : Status). ProgramIs words geometry good counted same left left_now w w_now limit s) (sym is) (replay, differs, kept, all)
-refused_geometry words geometry good counted same left left_now w w_now limit status replay differs kept (inr (is, cut, _)) =
-    subst (λ (s : Status). ProgramIs words geometry good counted same left left_now w w_now limit s) (sym is) (inl (geometry_text, inr (replay, differs, refl), kept, cut))
+pub finds_over : (imaged : Bool) (geometry over : Geometry) (old pages new : List Page) (left left_now : Option (List ℕ)) → over ≡ geometry → old ≡ pages
+    → Finds imaged over old new left left_now → Finds imaged geometry pages new left left_now
+finds_over imaged geometry over old pages new left left_now geometry_is pages_are finds =
+    subst (λ (p : List Page). Finds imaged geometry p new left left_now) pages_are (subst (λ (x : Geometry). Finds imaged x old new left left_now) geometry_is finds)

@@ -15,7 +15,7 @@ use Rattle.hpb_device.specs.declared.counts.Counts.{Counts}
 use Rattle.run_output.specs.Ends.{TakesLines}
 use Rattle.run_output.specs.Texts.{bad_line_text, counts_text, long_text}
 use Rattle.replay_standing.specs.Transcript.{IsPlain}
-use Rattle.run_output.specs.Writes.{AppendsFront}
+use Rattle.hpb_outside.specs.Writes.{AppendsFront}
 use Rattle.run_output.specs.declared.status.Status.{Status}
 use Rattle.run_output.specs.declared.status.Status.TheVariants.{Memory, WriteFault}
 

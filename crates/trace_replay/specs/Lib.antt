@@ -1,7 +1,10 @@
 pub mod Moments
 pub mod ByText
-pub mod Driving
+pub mod Beginning
 pub mod FlatAnswers
 pub mod Headline
 pub mod Run
 pub mod Showing
+pub mod Serving
+pub mod Programs
+pub mod Making

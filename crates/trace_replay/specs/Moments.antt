@@ -6,7 +6,7 @@ use Rattle.flat_unit.specs.Sizes.{Sizes}
 use Rattle.flat_unit.specs.Trace.{Line, Upiu, Steps, Collect, Drain, ResetLine, Blank}
 use Rattle.hpb_device.specs.Standing.{sizes_of}
 use Rattle.hpb_device.specs.State.{DeviceState}
-use Rattle.run_output.specs.Writes.{AppendsFront, HasWrittenUpTo}
+use Rattle.hpb_outside.specs.Writes.{AppendsFront, HasWrittenUpTo}
 use Rattle.replay_standing.specs.Standing.{Standing}
 
 -- what a line may lead to that is cut after one of its calls: a UPIU and a reset are cut before the device has them

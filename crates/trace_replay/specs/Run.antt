@@ -1,5 +1,6 @@
 -- What a run of a trace leaves.
-use Rattle.std.specs.Prelude.{◌≡◌, ◌⊎◌, ℕ, ◌+◌, ◌<◌, ◌≤◌, List, [], ◌++◌, map, length, Option, Some, None, codes}
+use Rattle.std.specs.Prelude.{◌≡◌, ◌≢◌, ◌⊎◌, ℕ, ◌+◌, ◌<◌, ◌≤◌, List, [], ◌++◌, map, length, Option, Some, None}
+use Rattle.std.specs.Prelude.{codes}
 use Rattle.std.specs.Io.KnownBytes.{Appends, Keeps}
 use Rattle.flat_unit.specs.Print.{print}
 use Rattle.flat_unit.specs.Reads.{DrainsReads}
@@ -13,18 +14,14 @@ use Rattle.trace_text.specs.Grammar.{trace_line}
 use Rattle.trace_text.specs.Lines.{IsLine, TakesLine, EndsAt, WhereTold}
 use Rattle.replay_standing.specs.Standing.{Standing}
 use Rattle.trace_replay.specs.Moments.{Leads, Cuts, CutLineTo}
-use Rattle.run_output.specs.Ends.{HasMore, IsLong, ReadsAhead, StopsWithinLine, TakesLines}
+use Rattle.run_output.specs.Ends.{CountsFault, HasMore, IsLong, ReadsAhead, StopsWithinLine, TakesLines}
 use Rattle.run_output.specs.Texts.{bad_line_text, counts_text, long_text}
-use Rattle.run_output.specs.Writes.{AppendsFront, HasWrittenUpTo}
+use Rattle.hpb_outside.specs.Writes.{AppendsFront, HasWrittenUpTo}
 use Rattle.run_output.specs.declared.turn.Turn.{Turn}
 use Rattle.run_output.specs.declared.turn.Turn.TheVariants.{Served, Ended, Bad, Unread, Unwritten}
 use Rattle.run_output.specs.declared.status.Status.{Status}
 use Rattle.run_output.specs.declared.status.Status.TheVariants.{Done, BadLine, ReadFault, WriteFault, LongTrace, Usage}
-use Rattle.run_output.specs.declared.status.Status.TheVariants.{Geometry as BadGeometry, Memory}
-use Rattle.flash_pages.specs.declared.chip.Geometry.{Geometry}
-use Rattle.replay_standing.specs.Transcript.{sizes_on}
-use Rattle.command_words.specs.Limits.{IsNamed}
-use Rattle.command_words.specs.Words.{IsReplay, named_unit}
+use Rattle.run_output.specs.declared.status.Status.TheVariants.{ChipFault, Geometry as BadGeometry, Memory}
 
 -- the next line is too long, and nothing was taken; or it was taken and is none of a trace. This is what follows what
 -- was taken.
@@ -116,28 +113,43 @@ usage_text = codes "E usage\n"
 abbrev pub geometry_text : List ℕ
 geometry_text = codes "E geometry\n"
 
--- the words are in form, and the chip serves what they name
-abbrev pub IsPlanned : List (List ℕ) → Geometry → Type 0
-IsPlanned words geometry = IsReplay words × IsNamed words geometry
-
 -- why no line is taken, and the text that says so
-abbrev pub IsRefusedRun : List (List ℕ) → Geometry → List ℕ → Type 0
-IsRefusedRun words geometry text = (¬ IsReplay words × (text ≡ usage_text))
-    ⊎ (IsReplay words × ¬ IsNamed words geometry × (text ≡ geometry_text))
+abbrev pub IsRefusedRun : (in_form named : Type 0) → List ℕ → Type 0
+IsRefusedRun in_form named text = (¬ in_form × (text ≡ usage_text))
+    ⊎ (in_form × ¬ named × (text ≡ geometry_text))
 
--- What a run leaves at each status. `same` says that nothing was read, and the chip is as it came.
-abbrev pub ProgramIs : List (List ℕ) → Geometry → (good : Progress → Type 0) → (counted : Progress → Counts → Type 0)
-    → (same : Type 0) → (left left_now written written_now : Option (List ℕ)) → ℕ → Status → Type 0
-ProgramIs words geometry good counted same left left_now written written_now limit Usage =
-    ¬ IsReplay words × same × Appends written written_now usage_text
-ProgramIs words geometry good counted same left left_now written written_now limit BadGeometry =
-    IsReplay words × ¬ IsNamed words geometry × same × Appends written written_now geometry_text
-ProgramIs words geometry good counted same left left_now written written_now limit Memory =
-    same × (written_now ≡ written)
-ProgramIs words geometry good counted same left left_now written written_now limit WriteFault =
-    ((text : List ℕ) × IsRefusedRun words geometry text × same × AppendsFront written written_now text)
-    ⊎ (IsPlanned words geometry
-    × RunIs (sizes_on (named_unit words) geometry) good counted left left_now written written_now limit WriteFault)
-ProgramIs words geometry good counted same left left_now written written_now limit status =
-    IsPlanned words geometry
-    × RunIs (sizes_on (named_unit words) geometry) good counted left left_now written written_now limit status
+-- What a run leaves at each status. `in_form` says that the words are in form, `named` that the chip serves what they
+-- name, `same` that nothing was read and the chip is as it came, and `serves` what is left where lines were served. For
+-- want of memory nothing was read or written, or that came between the lines.
+abbrev pub ProgramIs : (in_form named same : Type 0) → (serves : Status → Type 0)
+    → (written written_now : Option (List ℕ)) → Status → Type 0
+ProgramIs in_form named same serves written written_now Usage =
+    ¬ in_form × same × Appends written written_now usage_text
+ProgramIs in_form named same serves written written_now BadGeometry =
+    in_form × ¬ named × same × Appends written written_now geometry_text
+ProgramIs in_form named same serves written written_now Memory =
+    (same × (written_now ≡ written)) ⊎ (in_form × named × serves Memory)
+ProgramIs in_form named same serves written written_now WriteFault =
+    ((text : List ℕ) × IsRefusedRun in_form named text × same × AppendsFront written written_now text)
+    ⊎ (in_form × named × serves WriteFault)
+ProgramIs in_form named same serves written written_now status = in_form × named × serves status
+
+-- how the writing of an image ends, by the count of the chip's faults before it and now
+abbrev pub WritesImage : (image : List ℕ) → (faults faults_now : ℕ) → (written written_now : Option (List ℕ))
+    → Status → Type 0
+WritesImage image faults faults_now written written_now Done =
+    Appends written written_now image × (faults_now ≡ faults)
+WritesImage image faults faults_now written written_now WriteFault =
+    AppendsFront written written_now image × (faults_now ≡ faults)
+WritesImage image faults faults_now written written_now ChipFault =
+    AppendsFront written written_now image × CountsFault faults faults_now
+WritesImage image faults faults_now written written_now _ = ⊥
+
+-- What a replay leaves behind whose counts an image is written, by what the replay leaves with this count of the chip's
+-- faults and with these bytes written: it ends before, or it is done and the image is written.
+abbrev pub SnapIs : (replay : ℕ → Option (List ℕ) → Status → Type 0) → (image : List ℕ) → (faults : ℕ)
+    → (written_now : Option (List ℕ)) → Status → Type 0
+SnapIs replay image faults written_now status =
+    ((status ≢ Done) × replay faults written_now status)
+    ⊎ ((before : ℕ) × (mid : Option (List ℕ)) × replay before mid Done
+    × WritesImage image before faults mid written_now status)

@@ -5,7 +5,7 @@ use Rattle.trace_text.specs.Lines.{IsLine, TakesLine, EndsAt, WhereTold}
 use Rattle.trace_text.specs.Shown.{shown_line}
 use Rattle.run_output.specs.Ends.{HasMore, IsLong, ReadsAhead, StopsWithinLine, TakesLines}
 use Rattle.run_output.specs.Texts.{bad_line_text, long_text}
-use Rattle.run_output.specs.Writes.{AppendsFront, HasWrittenUpTo}
+use Rattle.hpb_outside.specs.Writes.{AppendsFront, HasWrittenUpTo}
 use Rattle.run_output.specs.declared.turn.Turn.{Turn}
 use Rattle.run_output.specs.declared.turn.Turn.TheVariants.{Served, Ended, Bad, Unread, Unwritten}
 use Rattle.run_output.specs.declared.status.Status.{Status}

@@ -7,7 +7,7 @@ use std::process::Abort;
 use std::test::Fail;
 
 /// A chip of four erase blocks of two pages, and the words that name it.
-const SMALL: Geometry = Geometry {
+pub const SMALL: Geometry = Geometry {
     blocks: 4,
     pages: 2,
 };
@@ -33,14 +33,14 @@ const NO_NUMBER: [(&str, &str); 2] = [
 ];
 
 /// A row over the small chip: its name, the pages that are written, its tables, and what is counted.
-type Row = (
+pub type Row = (
     &'static str,
     &'static [Put],
     &'static [&'static [(&'static str, &'static str)]],
     &'static str,
 );
 
-const ROWS: [Row; 2] = [
+pub const ROWS: [Row; 2] = [
     (
         "a number twice",
         &[(0, 0, 0, 5), (1, 0, 0, 5)],
@@ -56,7 +56,7 @@ const ROWS: [Row; 2] = [
 ];
 
 /// A script of tables.
-fn script_of(
+pub fn script_of(
     alloc: Global,
     tables: &[&[(&'static str, &'static str)]],
     counts: &str,

@@ -175,3 +175,16 @@ fn answers_are_printed(rt: HostRuntime) -> Result<(), Fail> {
     }
     Ok(())
 }
+
+#[test]
+fn a_seed_has_one_summary(rt: HostRuntime) -> Result<(), Fail> {
+    let words = "gen --seed 7 --blocks 8 --pages 4";
+    let first = run_words(rt.alloc(), words, b"R\n", Outside::faultless(rt.alloc()))?;
+    let again = run_words(rt.alloc(), words, b"", Outside::faultless(rt.alloc()))?;
+    assert!(rt; first.is_end(Status::Done, &again.printed), "{words}");
+    assert!(rt;
+        first.printed.starts_with(b"G lines=2000 reads="),
+        "{words}"
+    );
+    Ok(())
+}

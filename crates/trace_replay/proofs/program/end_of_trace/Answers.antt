@@ -1,7 +1,7 @@
 use Rattle.std.proofs.Common.{◌≡◌, ◌++◌, refl, inr, rules}
 use Rattle.run_output.specs.Ends.{CountsFault}
 use Rattle.run_output.specs.Texts.{counts_text}
-use Rattle.run_output.specs.Writes.{HasWrittenUpTo}
+use Rattle.hpb_outside.specs.Writes.{HasWrittenUpTo}
 use Rattle.run_output.proofs.Ended.{ends_wordless, last_since}
 use Rattle.run_output.proofs.Written.{front_longer, cut_of, gathers_more, whole_of}
 use Rattle.trace_replay.proofs.program.end_of_trace.Goals as goal

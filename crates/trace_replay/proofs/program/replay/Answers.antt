@@ -9,8 +9,9 @@ use Rattle.run_output.proofs.Ended.{sink_ended, source_ended}
 use Rattle.trace_replay.proofs.Transcripts.{counts_of, ends_in_source}
 use Rattle.hpb_device.specs.State.{DeviceState}
 use Rattle.replay_standing.specs.Standing.{AreCountsOf, Standing}
-use Rattle.run_output.specs.Writes.{HasWrittenUpTo}
-use Rattle.run_output.proofs.Written.{all_written, keeps_same}
+use Rattle.hpb_outside.specs.Writes.{HasWrittenUpTo}
+use Rattle.hpb_outside.proofs.Written.{all_written}
+use Rattle.run_output.proofs.Written.{keeps_same}
 use Rattle.trace_replay.proofs.program.replay.Goals as goal
 
 pub loop-number-init : goal.loop-number-init

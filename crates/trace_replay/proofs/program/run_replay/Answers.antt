@@ -1,36 +1,67 @@
-use Rattle.std.proofs.Common.{◌∙◌, ap, arith, refl, sym}
-use Rattle.trace_text.specs.Lines.{ReaderState}
+use Rattle.std.proofs.Common.{◌≤◌, ◌∙◌, List, [], ap, arith, refl, subst, sym}
+use Rattle.flash_pages.specs.Chip.{Page}
+use Rattle.flash_pages.specs.declared.chip.Geometry.{Geometry}
 use Rattle.region_state.specs.declared.shape.Shape.{Shape}
-use Rattle.command_words.specs.Words.{named_unit}
-use Rattle.trace_replay.proofs.Transcripts.{IsFresh, names_chip, names_no_chip, other_chip, refused_geometry, run_of_chip, same_chip}
+use Rattle.hpb_device.specs.Standing.{DeviceStandsForeign, first_of}
+use Rattle.hpb_device.specs.State.{IsSound}
+use Rattle.trace_replay.specs.Beginning.{IsFresh, IsServedBy}
+use Rattle.trace_replay.proofs.Naming.{replay_program}
+use Rattle.trace_replay.specs.Programs.{ReplayServes}
+use Rattle.trace_replay.proofs.Serving.{chip_refused}
+use Rattle.trace_replay.proofs.Transcripts.{other_chip, same_chip, serves_no_unit, serves_unit}
 use Rattle.trace_replay.proofs.program.run_replay.Goals as goal
 
 pub returns-then-ne-clause-run : goal.returns-then-ne-clause-run
-returns-then-ne-clause-run g c words replays chip unit =
-    refused_geometry words _ _ _ _ _ _ _ _ _ c.refused.result.status replays
-    (λ (is, limits, serves). other_chip _ _ _ c.ne.ensures c.if-ne.true (c.geometry.ensures ∙ (is ∙ sym chip)))
-    (refl, ap g.F.Flash.pages c.refused.ensures.flash) c.refused.ensures.refused
-
-pub returns-clause-run : goal.returns-clause-run
-returns-clause-run g c words replays chip unit =
-    let geometry = g.F.Flash.geometry c.args.flash in
-    let (named, shape) = names_chip words geometry c.args.named.chip c.args.named.unit chip unit (sym c.geometry.ensures ∙ same_chip _ _ _ c.ne.ensures c.if-ne.false) c.in-Ok.ensures.begun in
-    let fresh : IsFresh c.in-Ok.device (named_unit words) geometry (g.F.Flash.pages c.args.flash) (g.F.Flash.faults c.args.flash) = record {
-      shape_is = c.in-Ok.ensures.shape ∙ shape;
-      luns = c.in-Ok.ensures.luns;
-      units = c.in-Ok.ensures.units ∙ ap (λ (s : Shape). s.units) shape;
-      pages_are = c.in-Ok.ensures.pages;
-      geometry_is = c.in-Ok.ensures.geometry;
-      faults_are = c.in-Ok.ensures.faults;
-      some_block = omega (arith, c.in-Ok.ensures.begun.1.limits.least_blocks);
-      some_page = omega (arith, c.in-Ok.ensures.begun.1.limits.least_pages);
-    } in
-    run_of_chip words geometry c.in-Ok.device c.replay-status.new.device (g.F.Flash.pages c.args.flash) _ _ _ _ _ _ _ _ _ _ c.replay-status.result (replays, named) fresh
-    (ap (λ (r : ReaderState). r.held) c.in-Ok-new.ensures.reader) c.into_flash-2.ensures.pages c.into_flash-2.ensures.faults c.replay-status.ensures.run
+returns-then-ne-clause-run g c unit unit_is =
+    chip_refused {source = c.args.source.now} (IsServedBy c.args.replayed.named.chip unit (g.F.Flash.geometry c.args.flash))
+    (ReplayServes unit c.args.replayed.image c.args.tells_chip (g.F.Flash.geometry c.args.flash) (g.F.Flash.pages c.args.flash) (g.F.Flash.pages c.refused.result.flash) (g.F.Flash.faults c.args.flash) (g.F.Flash.faults c.refused.result.flash)
+    (g.S.Source.left c.args.source.now) (g.S.Source.left c.args.source.now) (g.K.Sink.written c.args.sink.now) (g.K.Sink.written c.refused.new.sink)) _ _ c.refused.result.status
+    (λ (is, limits, serves). other_chip _ _ _ c.ne.ensures c.if-ne.true (c.geometry.ensures ∙ is))
+    refl (ap g.F.Flash.pages c.refused.ensures.flash) c.refused.ensures.refused
 
 pub returns-in-Err-default-Geometry-clause-run : goal.returns-in-Err-default-Geometry-clause-run
-returns-in-Err-default-Geometry-clause-run g c words replays chip unit =
+returns-in-Err-default-Geometry-clause-run g c unit unit_is =
     let none = rw c.in-Err-default-Geometry.field-0-1-is at c.in-Err-default-Geometry.ensures.refused in
-    refused_geometry words _ _ _ _ _ _ _ _ _ c.refused-in-Err-default-Geometry.result.status replays
-    (names_no_chip words _ c.args.named.unit unit none)
-    (refl, ap g.F.Flash.pages c.refused-in-Err-default-Geometry.ensures.flash ∙ ap g.F.Flash.pages c.in-Err-default-Geometry.ensures.given_back) c.refused-in-Err-default-Geometry.ensures.refused
+    chip_refused {source = c.args.source.now} (IsServedBy c.args.replayed.named.chip unit (g.F.Flash.geometry c.args.flash))
+    (ReplayServes unit c.args.replayed.image c.args.tells_chip (g.F.Flash.geometry c.args.flash) (g.F.Flash.pages c.args.flash) (g.F.Flash.pages c.refused-in-Err-default-Geometry.result.flash) (g.F.Flash.faults c.args.flash) (g.F.Flash.faults c.refused-in-Err-default-Geometry.result.flash)
+    (g.S.Source.left c.args.source.now) (g.S.Source.left c.args.source.now) (g.K.Sink.written c.args.sink.now) (g.K.Sink.written c.refused-in-Err-default-Geometry.new.sink)) _ _ c.refused-in-Err-default-Geometry.result.status
+    (serves_no_unit _ _ unit c.args.replayed.named.unit unit_is none)
+    refl (ap g.F.Flash.pages c.refused-in-Err-default-Geometry.ensures.flash ∙ ap g.F.Flash.pages c.in-Err-default-Geometry.ensures.given_back) c.refused-in-Err-default-Geometry.ensures.refused
+
+pub replay_over-requires : goal.replay_over-requires
+replay_over-requires g c =
+    let made = c.in-Ok.ensures in
+    record {
+      begun = record {
+        begins = made.begins;
+        stands = made.stands;
+        foreign = subst (λ (chip : List Page). ¬ IsSound c.in-Ok.device → DeviceStandsForeign c.in-Ok.device chip (first_of c.in-Ok.device) []) (sym made.pages) made.foreign;
+        hints = made.hints;
+        fetched = made.fetched;
+        counted = made.counted;
+      };
+      some_page = subst (λ (chip : Geometry). 1 ≤ chip.pages) (sym made.geometry) (omega (arith, made.begun.1.limits.least_pages));
+      unread = c.in-Ok-new.ensures.reader;
+      fresh = c.in-Ok-new.ensures.output;
+    }
+
+pub returns-clause-run : goal.returns-clause-run
+returns-clause-run g c unit unit_is =
+    let made = c.in-Ok.ensures in
+    let geometry = g.F.Flash.geometry c.args.flash in
+    let (served, same) = serves_unit c.args.replayed.named.chip geometry unit c.args.replayed.named.unit unit_is (sym c.geometry.ensures ∙ same_chip _ _ _ c.ne.ensures c.if-ne.false) made.begun in
+    let fresh : IsFresh c.in-Ok.device unit geometry (g.F.Flash.pages c.args.flash) (g.F.Flash.faults c.args.flash) = record {
+      shape_is = made.shape ∙ same;
+      luns = made.luns;
+      units = made.units ∙ ap (λ (s : Shape). s.units) same;
+      pages_are = made.pages;
+      geometry_is = made.geometry;
+      faults_are = made.faults;
+      some_block = omega (arith, made.begun.1.limits.least_blocks);
+      some_page = omega (arith, made.begun.1.limits.least_pages);
+    } in
+    replay_program unit c.args.replayed.image geometry _ _ _ _ _ _ _ _ _ _ c.replay_over.result.status served c.args.tells_chip
+    (c.replay_over.ensures.run unit geometry (g.F.Flash.pages c.args.flash) (g.F.Flash.faults c.args.flash) fresh)
+
+pub returns-clause-limits : goal.returns-clause-limits
+returns-clause-limits g c done = c.in-Ok.ensures.begun.1.limits

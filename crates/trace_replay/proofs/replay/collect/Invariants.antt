@@ -3,7 +3,8 @@ use Rattle.flat_unit.specs.Print.{print}
 use Rattle.flat_unit.specs.Replays.{Progress}
 use Rattle.hpb_device.specs.State.{DeviceState}
 use Rattle.replay_standing.specs.Standing.{Standing}
-use Rattle.run_output.specs.Writes.{Grows, HasWrittenUpTo}
+use Rattle.hpb_outside.specs.Writes.{HasWrittenUpTo}
+use Rattle.run_output.specs.Writes.{Grows}
 use Rattle.trace_replay.proofs.Collecting.{Called}
 use Rattle.trace_replay.proofs.replay.collect.Given as goal
 

@@ -4,7 +4,8 @@ use Rattle.flat_unit.specs.Replays.{Progress}
 use Rattle.hpb_device.specs.Left.{steps_left}
 use Rattle.hpb_device.specs.State.{DeviceState}
 use Rattle.replay_standing.specs.Standing.{Standing}
-use Rattle.run_output.specs.Writes.{Grows, HasWrittenUpTo}
+use Rattle.hpb_outside.specs.Writes.{HasWrittenUpTo}
+use Rattle.run_output.specs.Writes.{Grows}
 use Rattle.trace_replay.proofs.Draining.{Draining}
 use Rattle.trace_replay.proofs.replay.drain.Given as goal
 

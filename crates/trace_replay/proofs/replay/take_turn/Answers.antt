@@ -4,7 +4,8 @@ use Rattle.flat_unit.specs.Print.{print}
 use Rattle.trace_text.specs.Grammar.{line_said, trace_line}
 use Rattle.trace_replay.proofs.Turns.{turn_cut, turn_served, whole_room}
 use Rattle.run_output.proofs.Ended.{long_text_of}
-use Rattle.run_output.proofs.Written.{asked_after, cut_of, empty_unless, grows_none, up_to_end, whole_of}
+use Rattle.hpb_outside.proofs.Written.{up_to_end}
+use Rattle.run_output.proofs.Written.{asked_after, cut_of, empty_unless, grows_none, whole_of}
 use Rattle.trace_replay.proofs.replay.take_turn.Goals as goal
 
 pub returns-then-is_err-clause-turn : goal.returns-then-is_err-clause-turn

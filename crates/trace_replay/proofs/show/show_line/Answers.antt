@@ -3,7 +3,8 @@ use Rattle.trace_text.specs.Shown.{shown_line}
 use Rattle.run_output.specs.Texts.{shown_text}
 use Rattle.trace_replay.proofs.Shown.{none_of, nothing_shown, some_of}
 use Rattle.run_output.proofs.Ended.{long_text_of}
-use Rattle.run_output.proofs.Written.{asked_after, cut_of, empty_unless, gathers_more, keeps_grows, still_none, up_to_end, whole_of}
+use Rattle.hpb_outside.proofs.Written.{up_to_end}
+use Rattle.run_output.proofs.Written.{asked_after, cut_of, empty_unless, gathers_more, keeps_grows, still_none, whole_of}
 use Rattle.trace_replay.proofs.show.show_line.Goals as goal
 
 pub returns-then-is_err-clause-turn : goal.returns-then-is_err-clause-turn

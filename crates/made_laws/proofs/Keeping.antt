@@ -1,9 +1,10 @@
 -- Each moment of a drive keeps its requests counted and served, whatever the device does.
-use Rattle.std.proofs.Common.{◌≡◌, ℕ, zero, suc, ◌+◌, ◌≤◌, ◌<◌, Bool, true, false, not, ◌&&◌, List, [], ◌∷◌, length, length-append, map, filter}
+use Rattle.std.proofs.Common.{◌≡◌, ◌++◌, ℕ, zero, suc, ◌+◌, ◌≤◌, ◌<◌, Bool, true, false, not, ◌&&◌, List, [], ◌∷◌, length, map, filter}
 use Rattle.std.proofs.Common.{Option, Some, None, Result, refl, sym, ◌∙◌, ap, subst, arith, nat_le}
-use Rattle.std.specs.Prelude.{if◌then◌else◌, fold, slice_get, MatchBool}
+use Rattle.std.specs.Prelude.{if◌then◌else◌, fold, slice_get, IsPermutation, MatchBool}
 use Rattle.std.specs.List.{range_with_len}
-use Rattle.std.proofs.lemmas.List.{length-map}
+use Rattle.std.proofs.lemmas.List.{append-nil, length-map}
+use Rattle.std.proofs.lemmas.List.Sorted.{IsPermutation-refl, length_permutation}
 use Rattle.std.proofs.lemmas.Bool.Decides.{nat_tests}
 use Rattle.host_map_cache.specs.Cache.{CacheState, covers}
 use Rattle.upiu_wire.specs.Upiu.{Upiu, upiu_out}
@@ -19,10 +20,10 @@ use Rattle.driver_laws.specs.declared.request.Request.{Request}
 use Rattle.driver_laws.specs.declared.request.Request.TheVariants.{Read as ReadOf, Write as WriteOf, Sync as SyncAll, Ready}
 use Rattle.driver_laws.specs.Commands.{OpenCommand, is_caller, tags}
 use Rattle.driver_laws.specs.Deliver.{Delivered, delivered}
-use Rattle.driver_laws.specs.Drive.{Moment, asks, cut, last_tag}
-use Rattle.driver_laws.specs.Flat.{Asked}
-use Rattle.driver_laws.specs.Fits.{IsBook, serving}
-use Rattle.driver_laws.specs.Laws.{Numbered, under_number}
+use Rattle.driver_laws.specs.Drive.{Moment, asks, last_tag}
+use Rattle.driver_laws.specs.Flat.{Answered, Asked}
+use Rattle.driver_laws.specs.Fits.{IsBook, numbers_answered, numbers_asked, serving}
+use Rattle.driver_laws.specs.Laws.{Numbered, numbered}
 use Rattle.driver_laws.specs.Requests.{Way, Plainly, WithEntry, WithList, commands_of, submitted}
 use Rattle.driver_laws.proofs.Booking.{asks_book}
 use Rattle.driver_caches.specs.Machine.{Machine, entry_at, has_pair, next_upiu, way_by_cache, way_of, with_delivered, with_next}
@@ -34,8 +35,10 @@ use Rattle.drive_rules.specs.Lines.{drive_begun, handed, happened, held_back, mo
 use Rattle.drive_rules.proofs.Caching.{and_both}
 use Rattle.drive_rules.proofs.Ending.{asked_of}
 use Rattle.drive_rules.proofs.Turns.{drained}
-use Rattle.made_laws.proofs.Serving.{IsCounted, IsServed, delivered_counted, got_serves, none_waits, sent_serves}
+use Rattle.made_laws.specs.Numbers.{numbers_of}
+use Rattle.made_laws.proofs.Serving.{IsCounted, asked_counted, cut_counted, IsServed, delivered_counted, got_serves, none_waits, sent_serves}
 
+-- what holds at each moment: the open commands serve the callers that wait, and each request came to its end once, or waits
 pub record IsKept (d : Drive) : Type 0 where
   pub served : IsServed d.callers d.machine.opens
   pub counted : IsCounted (moment_of d)
@@ -155,10 +158,7 @@ kept_requested s true request d few kept =
     let book : IsBook (asks (d.count + 1) way request before) = asks_book s (d.count + 1) way request before room (record { serves = kept.served; order = refl }) in
     let opens : List OpenCommand = submitted way request d.machine.opens in
     let one : Asked = record { number = d.count + 1; tag = last_tag opens; request = request } in
-    let asked = length-append d.asked (one ∷ []) in
-    let callers = length-append d.callers (one ∷ []) in
-    let counted = kept.counted in
-    record { served = book.serves; counted = omega (arith, asked, callers, counted) }
+    record { served = book.serves; counted = asked_counted (moment_of d) one kept.counted }
 kept_requested s false request d few kept = record { served = kept.served; counted = kept.counted }
 
 record IsFreed (d : Drive) : Type 0 where
@@ -190,11 +190,7 @@ kept_collected s zero d now is kept = subst IsKept (sym is) kept
 kept_collected s (suc n) d now (mid, calls, one) kept = kept_call s mid now one (kept_collected s n d mid calls kept)
 
 kept_reset : (d : Drive) → IsKept d → IsKept (reset_both d)
-kept_reset d kept =
-    let more = length-append d.answers (map cut d.callers) in
-    let all = length-map d.callers cut in
-    let counted = kept.counted in
-    record { served = refl; counted = omega (arith, more, all, counted) }
+kept_reset d kept = record { served = refl; counted = cut_counted (moment_of d) kept.counted }
 
 -- ---- lines
 
@@ -216,7 +212,7 @@ kept_drive : (s : Sizes) (machine : Machine) (lines : List DriveLine) (now : Dri
 kept_drive s machine lines now none drives =
     kept_drain s drives.mid now drives.end
     (kept_lines s lines (drive_begun machine) drives.mid drives.each
-    (record { served = ap (λ (os : List OpenCommand). map serving (filter is_caller os)) (sym none); counted = refl }))
+    (record { served = ap (λ (os : List OpenCommand). map serving (filter is_caller os)) (sym none); counted = IsPermutation-refl [] }))
 
 -- ---- whole drives
 
@@ -226,12 +222,24 @@ none_left s machine lines now none drives =
     none_waits now.callers
     ((kept_drive s machine lines now none drives).served ∙ ap (λ (os : List OpenCommand). map serving (filter is_caller os)) (drained s drives.mid now drives.end))
 
--- and each request in range was answered
+numbers_same : (asked : List Asked) → numbers_of (numbered asked) ≡ numbers_asked asked
+numbers_same [] = refl
+numbers_same (a ∷ rest) = ap (λ (xs : List ℕ). a.number ∷ xs) (numbers_same rest)
+
+-- and each request in range was answered once
 pub all_answered : (s : Sizes) (machine : Machine) (lines : List DriveLine) (now : Drive) → machine.opens ≡ [] → Drives s machine lines now
-    → length now.answers ≡ length (requests_of s 0 0 lines)
+    → IsPermutation (numbers_of (requests_of s 0 0 lines)) (numbers_answered now.answers)
 all_answered s machine lines now none drives =
-    let counted = (kept_drive s machine lines now none drives).counted in
-    let left : length now.callers ≡ 0 = ap length (none_left s machine lines now none drives) in
-    let numbered = length-map now.asked under_number in
-    let asked = ap (λ (xs : List Numbered). length xs) (asked_of s machine lines now drives) in
-    omega (arith, counted, left, numbered, asked)
+    let asked : numbers_asked now.asked ≡ numbers_of (requests_of s 0 0 lines) = sym (numbers_same now.asked) ∙ ap numbers_of (asked_of s machine lines now drives) in
+    let answered : numbers_answered now.answers ++ numbers_asked now.callers ≡ numbers_answered now.answers =
+    ap (λ (cs : List Asked). numbers_answered now.answers ++ numbers_asked cs) (none_left s machine lines now none drives) ∙ append-nil (numbers_answered now.answers) in
+    subst (λ (xs : List ℕ). IsPermutation xs (numbers_answered now.answers)) asked
+    (subst (IsPermutation (numbers_asked now.asked)) answered (kept_drive s machine lines now none drives).counted)
+
+pub as_many : (s : Sizes) (machine : Machine) (lines : List DriveLine) (now : Drive) → machine.opens ≡ [] → Drives s machine lines now
+    → length now.answers ≡ length (requests_of s 0 0 lines)
+as_many s machine lines now none drives =
+    let same = length_permutation (numbers_of (requests_of s 0 0 lines)) (numbers_answered now.answers) (all_answered s machine lines now none drives) in
+    let answers = length-map now.answers (λ (a : Answered). a.number) in
+    let requests = length-map (requests_of s 0 0 lines) (λ (r : Numbered). r.number) in
+    omega (arith, same, answers, requests)

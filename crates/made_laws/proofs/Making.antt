@@ -1,6 +1,7 @@
 -- Each read and each write of the lines that are made is in range.
-use Rattle.std.proofs.Common.{◌≡◌, ℕ, zero, suc, ◌+◌, ◌≤◌, ◌<◌, Bool, true, false, ◌==◌, ◌&&◌, nat_le, nat_lt, List, ◌∷◌, length, min, refl, ◌∙◌, ap, arith}
+use Rattle.std.proofs.Common.{◌≡◌, ℕ, zero, suc, ◌+◌, ◌≤◌, ◌<◌, Bool, true, false, ◌==◌, ◌&&◌, nat_le, nat_lt, List, ◌∷◌, min, refl, ◌∙◌, ap, arith}
 use Rattle.std.specs.Prelude.{if◌then◌else◌}
+use Rattle.std.specs.List.{range_with_len}
 use Rattle.std.proofs.lemmas.Bool.Decides.{nat_tests}
 use Rattle.flat_unit.specs.Sizes.{Sizes}
 use Rattle.driver_laws.specs.declared.request.Request.TheVariants.{Read as ReadOf, Write as WriteOf}
@@ -8,6 +9,7 @@ use Rattle.trace_text.specs.declared.drive.DriveLine.{DriveLine}
 use Rattle.trace_text.specs.declared.drive.DriveLine.TheVariants.{Read, Write, Steps, Collect, Drain, Reset, Lun, Blank}
 use Rattle.drive_rules.specs.FlatLines.{one_request, requests_of}
 use Rattle.drive_rules.specs.Lines.{are_there, pattern_bytes}
+use Rattle.made_laws.specs.Numbers.{numbers_of}
 use Rattle.made_drive.specs.Counts.{reads_in, writes_in}
 use Rattle.made_drive.specs.Generator.{block_count, drawn, first_block, line_after, made_collect, made_end, made_lines, made_read, made_steps, made_write, next_number}
 
@@ -58,24 +60,31 @@ line_in_range s x some_unit some_block =
     made_in_range s (nat_lt kind 8) (nat_lt kind 13) (kind == 13) (kind == 14) (next_number x) some_unit some_block
 
 -- a request more
-line_requests : (s : Sizes) (line : DriveLine) (lines : List DriveLine) (number : ℕ) → IsInRange s line
-    → ((n : ℕ) → length (requests_of s 0 n lines) ≡ reads_in lines + writes_in lines)
-    → length (requests_of s 0 number (line ∷ lines)) ≡ reads_in (line ∷ lines) + writes_in (line ∷ lines)
-line_requests s (Read lba n) lines number there rest =
-    let behind = rest (number + 1) in
-    ap (λ (b : Bool). length (one_request b (number + 1) (ReadOf 0 lba n) (requests_of s 0 (number + 1) lines))) there ∙ omega (arith, behind)
-line_requests s (Write lba n seed) lines number there rest =
-    let behind = rest (number + 1) in
-    ap (λ (b : Bool). length (one_request b (number + 1) (WriteOf 0 lba n (pattern_bytes s seed lba n)) (requests_of s 0 (number + 1) lines))) there ∙ omega (arith, behind)
-line_requests s (Lun k) lines number there rest = absurd there
-line_requests s (Steps n) lines number there rest = let behind = rest number in omega (arith, behind)
-line_requests s (Collect n) lines number there rest = let behind = rest number in omega (arith, behind)
-line_requests s Drain lines number there rest = let behind = rest number in omega (arith, behind)
-line_requests s Reset lines number there rest = let behind = rest number in omega (arith, behind)
-line_requests s Blank lines number there rest = let behind = rest number in omega (arith, behind)
+one_more : (number r w count : ℕ) (xs : List ℕ) → xs ≡ range_with_len (number + 1 + 1) (r + w) → count ≡ suc (r + w) → (number + 1) ∷ xs ≡ range_with_len (number + 1) count
+one_more number r w count xs is many = rw (is, many) refl
 
+as_many_more : (number r w count : ℕ) (xs : List ℕ) → xs ≡ range_with_len (number + 1) (r + w) → count ≡ r + w → xs ≡ range_with_len (number + 1) count
+as_many_more number r w count xs is many = rw (is, many) refl
+
+line_requests : (s : Sizes) (line : DriveLine) (lines : List DriveLine) (number : ℕ) → IsInRange s line
+    → ((n : ℕ) → numbers_of (requests_of s 0 n lines) ≡ range_with_len (n + 1) (reads_in lines + writes_in lines))
+    → numbers_of (requests_of s 0 number (line ∷ lines)) ≡ range_with_len (number + 1) (reads_in (line ∷ lines) + writes_in (line ∷ lines))
+line_requests s (Read lba n) lines number there rest =
+    ap (λ (b : Bool). numbers_of (one_request b (number + 1) (ReadOf 0 lba n) (requests_of s 0 (number + 1) lines))) there
+    ∙ one_more number (reads_in lines) (writes_in lines) _ (numbers_of (requests_of s 0 (number + 1) lines)) (rest (number + 1)) (omega arith)
+line_requests s (Write lba n seed) lines number there rest =
+    ap (λ (b : Bool). numbers_of (one_request b (number + 1) (WriteOf 0 lba n (pattern_bytes s seed lba n)) (requests_of s 0 (number + 1) lines))) there
+    ∙ one_more number (reads_in lines) (writes_in lines) _ (numbers_of (requests_of s 0 (number + 1) lines)) (rest (number + 1)) (omega arith)
+line_requests s (Lun k) lines number there rest = absurd there
+line_requests s (Steps n) lines number there rest = as_many_more number (reads_in lines) (writes_in lines) _ (numbers_of (requests_of s 0 number lines)) (rest number) (omega arith)
+line_requests s (Collect n) lines number there rest = as_many_more number (reads_in lines) (writes_in lines) _ (numbers_of (requests_of s 0 number lines)) (rest number) (omega arith)
+line_requests s Drain lines number there rest = as_many_more number (reads_in lines) (writes_in lines) _ (numbers_of (requests_of s 0 number lines)) (rest number) (omega arith)
+line_requests s Reset lines number there rest = as_many_more number (reads_in lines) (writes_in lines) _ (numbers_of (requests_of s 0 number lines)) (rest number) (omega arith)
+line_requests s Blank lines number there rest = as_many_more number (reads_in lines) (writes_in lines) _ (numbers_of (requests_of s 0 number lines)) (rest number) (omega arith)
+
+-- the requests of lines that are made have the numbers from 1 on
 pub made_requests : (s : Sizes) (x count number : ℕ) → 1 ≤ s.luns → 1 ≤ s.units
-    → length (requests_of s 0 number (made_lines s.units x count)) ≡ reads_in (made_lines s.units x count) + writes_in (made_lines s.units x count)
+    → numbers_of (requests_of s 0 number (made_lines s.units x count)) ≡ range_with_len (number + 1) (reads_in (made_lines s.units x count) + writes_in (made_lines s.units x count))
 unfolding made_lines
 made_requests s x zero number some_unit some_block = refl
 made_requests s x (suc count) number some_unit some_block =

@@ -1,8 +1,10 @@
 -- The requests that are open are those that the open commands serve, whatever the device does.
-use Rattle.std.proofs.Common.{◌≡◌, ℕ, suc, ◌+◌, Bool, true, false, cond, List, [], ◌∷◌, ◌++◌, length, length-append, map}
-use Rattle.std.proofs.Common.{filter, Option, Some, None, Result, Ok, Err, refl, sym, ◌∙◌, ap, ap₂, arith, append-nil, ◌==◌}
-use Rattle.std.specs.Prelude.{if◌then◌else◌}
+use Rattle.std.proofs.Common.{◌≡◌, subst, ℕ, suc, ◌+◌, Bool, true, false, cond, List, [], ◌∷◌, ◌++◌, map}
+use Rattle.std.proofs.Common.{filter, Option, Some, None, Result, Ok, Err, refl, sym, ◌∙◌, ap, ap₂, append-nil, ◌==◌}
+use Rattle.std.specs.Prelude.{if◌then◌else◌, IsPermutation}
 use Rattle.std.specs.List.{find}
+use Rattle.std.proofs.lemmas.List.{append_assoc, map-append}
+use Rattle.std.proofs.lemmas.List.Sorted.{IsPermutation-append_left, IsPermutation-append_right, IsPermutation-cons, IsPermutation-middle, IsPermutation-refl, IsPermutation-sym, IsPermutation-trans}
 use Rattle.std.proofs.lemmas.Bool.{false≢true, eqb-true}
 use Rattle.host_map_cache.specs.Cache.{CacheState}
 use Rattle.upiu_wire.specs.declared.fault.WireFault.{WireFault}
@@ -17,14 +19,15 @@ use Rattle.driver_laws.specs.declared.fault.DriverFault.TheVariants.{Phase}
 use Rattle.driver_laws.specs.Commands.{OpenCommand, Wanted, after_next, change_first, free_tag, has, is_caller, is_waiting, next_of, next_owing, next_waiting}
 use Rattle.driver_laws.specs.Commands.{open_as, opened, opened_with, owes_data, remove_first, with_begin, with_piece}
 use Rattle.driver_laws.specs.Deliver.{Delivered, answer_of, delivered, delivered_by, delivered_by_fault, delivered_to, is_in_phase, taken, with_asked, with_got}
-use Rattle.driver_laws.specs.Drive.{Moment, answered_for, has_asked, with_done, without_asked, with_delivered as moment_delivered}
-use Rattle.driver_laws.specs.Flat.{Asked}
-use Rattle.driver_laws.specs.Fits.{Serving, serving, serving_asked}
+use Rattle.driver_laws.specs.Drive.{Moment, cut, answered_for, has_asked, with_done, without_asked, with_delivered as moment_delivered}
+use Rattle.driver_laws.specs.Flat.{Answered, Asked}
+use Rattle.driver_laws.specs.Fits.{Serving, numbers_answered, numbers_asked, serving, serving_asked}
 use Rattle.driver_laws.proofs.Booking.{serving_more}
 use Rattle.driver_laws.proofs.Flatness.{serves_same}
 use Rattle.driver_caches.specs.Machine.{Machine, Own, Picked, also, evicted_from, first_picked, first_told, loads}
 use Rattle.driver_caches.specs.Machine.{may_send_own, stale_dropped, wanted_from, with_evicted, with_next, with_own, with_picked, with_wanted}
 
+-- the open commands of callers serve these requests, in order
 abbrev pub IsServed : List Asked → List OpenCommand → Type 0
 IsServed callers opens = map serving_asked callers ≡ map serving (filter is_caller opens)
 
@@ -171,29 +174,62 @@ got_serves s bytes m opens_now ok err served = by_result (delivered s m.opens by
     by_result (Ok d) leaves = ap (map serving_asked) (done_callers d.done (record m { opens = d.opens })) ∙ leaves ∙ ap (λ (os : List OpenCommand). map serving (filter is_caller os)) (sym (ok d))
     by_result (Err fault) leaves = served ∙ ap (λ (os : List OpenCommand). map serving (filter is_caller os)) (sym (err fault))
 
--- as many requests were taken as came to their end and as wait
+-- each request that was taken came to its end once, or waits
 abbrev pub IsCounted : Moment → Type 0
-IsCounted m = length m.asked ≡ length m.answers + length m.callers
+IsCounted m = IsPermutation (numbers_asked m.asked) (numbers_answered m.answers ++ numbers_asked m.callers)
 
-answered_once : (done : Done) (cs : List Asked) → length (answered_for done (find (has_asked done.tag) cs)) + length (without_asked done.tag cs) ≡ length cs
-answered_once done [] = refl
+answered_once : (done : Done) (cs : List Asked)
+    → IsPermutation (numbers_asked cs) (numbers_answered (answered_for done (find (has_asked done.tag) cs)) ++ numbers_asked (without_asked done.tag cs))
+answered_once done [] = IsPermutation-refl []
 answered_once done (a ∷ rest) = by_test (answered_once done rest) (has_asked done.tag a)
   where
-    by_test : length (answered_for done (find (has_asked done.tag) rest)) + length (without_asked done.tag rest) ≡ length rest → (b : Bool)
-        → length (answered_for done (cond b (Some a) (find (has_asked done.tag) rest))) + length (if b then rest else a ∷ without_asked done.tag rest) ≡ length (a ∷ rest)
-    by_test behind true = omega arith
-    by_test behind false = omega (arith, behind)
+    by_test : IsPermutation (numbers_asked rest) (numbers_answered (answered_for done (find (has_asked done.tag) rest)) ++ numbers_asked (without_asked done.tag rest)) → (b : Bool)
+        → IsPermutation (numbers_asked (a ∷ rest))
+        (numbers_answered (answered_for done (cond b (Some a) (find (has_asked done.tag) rest))) ++ numbers_asked (if b then rest else a ∷ without_asked done.tag rest))
+    by_test behind true = IsPermutation-refl (a.number ∷ numbers_asked rest)
+    by_test behind false =
+        let found : List ℕ = numbers_answered (answered_for done (find (has_asked done.tag) rest)) in
+        let left : List ℕ = numbers_asked (without_asked done.tag rest) in
+        IsPermutation-trans (a.number ∷ numbers_asked rest) (a.number ∷ (found ++ left)) (found ++ a.number ∷ left) (IsPermutation-cons a.number (numbers_asked rest) (found ++ left) behind)
+        (IsPermutation-sym (found ++ a.number ∷ left) (a.number ∷ (found ++ left)) (IsPermutation-middle found a.number left))
 
 done_counted : (x : Option Done) (m : Moment) → IsCounted m → IsCounted (with_done x m)
 done_counted None m counted = counted
 done_counted (Some done) m counted =
-    let one = answered_once done m.callers in
-    let more = length-append m.answers (answered_for done (find (has_asked done.tag) m.callers)) in
-    omega (arith, counted, one, more)
+    let before : List ℕ = numbers_answered m.answers in
+    let ended : List Answered = answered_for done (find (has_asked done.tag) m.callers) in
+    let left : List ℕ = numbers_asked (without_asked done.tag m.callers) in
+    let all : IsPermutation (numbers_asked m.asked) (before ++ (numbers_answered ended ++ left)) =
+    IsPermutation-trans (numbers_asked m.asked) (before ++ numbers_asked m.callers) (before ++ (numbers_answered ended ++ left)) counted
+    (IsPermutation-append_right before (numbers_asked m.callers) (numbers_answered ended ++ left) (answered_once done m.callers)) in
+    subst (IsPermutation (numbers_asked m.asked))
+    (sym (append_assoc before (numbers_answered ended) left) ∙ ap (λ (xs : List ℕ). xs ++ left) (sym (map-append (λ (x : Answered). x.number) m.answers ended))) all
 
 pub delivered_counted : (r : Result Delivered DriverFault) (m : Moment) → IsCounted m → IsCounted (moment_delivered r m)
 delivered_counted (Ok d) m counted = done_counted d.done (record m { opens = d.opens }) counted
 delivered_counted (Err fault) m counted = counted
+
+-- a request that is taken waits
+pub asked_counted : (m : Moment) (one : Asked) → IsCounted m → IsCounted (record m { asked = m.asked ++ one ∷ []; callers = m.callers ++ one ∷ [] })
+asked_counted m one counted =
+    let before : List ℕ = numbers_answered m.answers in
+    let more : IsPermutation (numbers_asked m.asked ++ one.number ∷ []) ((before ++ numbers_asked m.callers) ++ one.number ∷ []) =
+    IsPermutation-append_left (one.number ∷ []) (numbers_asked m.asked) (before ++ numbers_asked m.callers) counted in
+    subst (λ (xs : List ℕ). IsPermutation xs (before ++ numbers_asked (m.callers ++ one ∷ []))) (sym (map-append (λ (x : Asked). x.number) m.asked (one ∷ [])))
+    (subst (IsPermutation (numbers_asked m.asked ++ one.number ∷ []))
+    (append_assoc before (numbers_asked m.callers) (one.number ∷ []) ∙ ap (λ (xs : List ℕ). before ++ xs) (sym (map-append (λ (x : Asked). x.number) m.callers (one ∷ [])))) more)
+
+cut_numbers : (callers : List Asked) → numbers_answered (map cut callers) ≡ numbers_asked callers
+cut_numbers [] = refl
+cut_numbers (a ∷ rest) = ap (λ (xs : List ℕ). a.number ∷ xs) (cut_numbers rest)
+
+-- a reset ends all that wait
+pub cut_counted : (m : Moment) → IsCounted m → IsCounted (record m { callers = []; answers = m.answers ++ map cut m.callers })
+cut_counted m counted =
+    subst (IsPermutation (numbers_asked m.asked))
+    (ap (λ (xs : List ℕ). numbers_answered m.answers ++ xs) (sym (cut_numbers m.callers))
+    ∙ sym (map-append (λ (x : Answered). x.number) m.answers (map cut m.callers))
+    ∙ sym (append-nil (numbers_answered (m.answers ++ map cut m.callers)))) counted
 
 -- what the driver opens of its own serves no caller
 opened_serves : (opens : List OpenCommand) (w : Wanted) → w.caller ≡ false → map serving (filter is_caller (opened opens w)) ≡ map serving (filter is_caller opens)
